@@ -1,0 +1,9 @@
+pub mod Digits
+pub mod Words
+pub mod Units
+pub mod Cut
+pub mod Even
+pub mod Rounded
+pub mod Round
+pub mod Floats
+pub mod Products

@@ -1,0 +1,4 @@
+pub mod Format
+pub mod Rounding
+pub mod Refusal
+pub mod Answers
