@@ -1,19 +1,19 @@
 -- How a fraction of units is cut: equal fractions alike, and the two shifts that an engine makes. Over any format. Assumes nothing.
 use mathlib.Core.Path.{_≡_, refl, sym, ap, _∙_, subst}
-use Prim.Native.Nat.{ℕ, zero, suc, _+_, _-_, _*_, _/_, _%_, _^_, _≤_, _<_, min}
-use native.Mathlib.Nat.{le-trans, le-of-eq, le-of-lt, le-antisymm, lt-of-lt-of-le, lt-of-le-of-lt, lt-of-not-le, not-le-of-lt, eq-zero-or-pos, mul-one, one-mul, mul-comm, mul-assoc, mul-pos, mul-le-mul-right, mul-le-mul-left, mul-div-cancel, mul-mod-left, div-one, div-add-mod', div-lt-iff-lt-mul, div-div-eq-div-mul, div-le-self, mod-lt, eq-of-mul-eq-mul-right}
+use Prim.Native.Nat.{ℕ, zero, suc, _+_, _-_, _*_, _/_, _%_, _^_, _≤_, _<_}
+use native.Mathlib.Nat.{le-trans, le-of-eq, lt-of-le-of-lt, eq-zero-or-pos, mul-one, mul-pos, mul-le-mul-right, mul-div-cancel, mul-mod-left, div-one, div-add-mod', div-lt-iff-lt-mul, div-div-eq-div-mul, div-le-self}
 use native.Mathlib.Omega.{arith}
 use mathlib.Core.Logic.{_⊎_, inl, inr}
-use mathlib.Core.Bool.{Bool, true, false, not, cond}
-use lib.Dec.{T, ltb, leb, ltb→lt, nltb→le}
-use borrow.Author.Tests.{lt-ltb, le-ltb, le-leb}
-use lib.Pow.{pow-add, pow-pos, pow-mono, pow-lt, shl-lt}
+use mathlib.Core.Bool.{Bool, false, not}
+use lib.Dec.{ltb}
+use borrow.Author.Tests.{lt-ltb}
+use lib.Pow.{pow-add, pow-pos, shl-lt}
 use lib.Ieee.{size}
-use lib.Ieee.Digits.{size-lt, size-le}
+use lib.Ieee.Digits.{size-le}
 use lib.Ieee.Fits.{kept-lt}
 use lib.Ieee.Nearest.{div-same}
-use Rattle.words.specs.Format.{Format, hid, ones, infinity}
-use Rattle.words.specs.Rounding.{Rule, places, kept, rest}
+use Rattle.words.specs.Format.{Format}
+use Rattle.words.specs.Rounding.{places, kept, rest}
 use Rattle.words.proofs.Digits.{size-exact}
 
 -- ---- equal fractions are cut alike

@@ -1,21 +1,16 @@
 -- Words and floats: what float a word stands for, and which is the NaN. Assumes nothing.
 use mathlib.Core.Path.{_≡_, refl, sym, ap, _∙_, subst}
 use Prim.Native.Nat.{ℕ, zero, suc, _+_, _-_, _*_, _/_, _%_, _^_, _≤_, _<_}
-use native.Mathlib.Nat.{mul-one, mul-comm, mul-pos, mul-le-mul-right, mul-lt-mul-of-pos-right, lt-of-mul-lt-mul-right, mul-div-cancel, mul-mod-left, mod-lt, mod-eq-of-lt, mod-eq-sub-mod, mod-mod-of-dvd, dvd-mul-right, div-add-mod', sub-lt-left-of-lt-add, add-sub-of-le, le-add-right, zero-add, lt-of-lt-of-le, lt-of-le-of-lt, le-trans, le-of-eq, le-of-lt, zero-lt-suc}
+use native.Mathlib.Nat.{mul-one, lt-of-mul-lt-mul-right, mul-div-cancel, mul-mod-left, mod-mod-of-dvd, dvd-mul-right, div-add-mod', le-add-right, lt-of-le-of-lt, le-of-eq}
 use native.Mathlib.Omega.{arith}
 use mathlib.Core.Bool.{Bool, true, false, not, cond}
-use lib.Dec.{T, leb, ltb, eqb, ltb→lt, nltb→le, lt→ltb, leb→le, nleb→lt, eqb→eq, not-T}
-use lib.Arith.{lt→nleb, le→nltb}
+use lib.Dec.{T, leb, ltb, eqb, lt→ltb, eqb→eq, not-T}
+use lib.Arith.{le→nltb}
 use lib.Pow.{pow-pos}
-use lib.IntN.{ℤ, pos, negsuc, _+ℤ_, natAbs}
-use lib.Signed.{leZ, nonNeg, _≤ℤ_}
-use mir.Syntax.{Width}
-use mir.Val.{SFits, hbits, toZ, ofZ}
-use mir.ValLaws.{toZ-ofZ}
 use lib.Ieee as Ieee
-use lib.Ieee.{Float, nan, inf, fin, Format, binary32, binary64, prec, emax, low, hid, ones, top, minus, odd, isNan, nanBits, ofBits, ofFields, toBits, ne}
-use lib.Ieee.Fits.{two, reach, eq→eqb}
-use lib.Ieee.Bits.{is-true, is-false, cond-no, nanBits-is, nanBits-above}
+use lib.Ieee.{Float, nan, inf, fin, Format, binary32, binary64, prec, emax, low, hid, ones, top, odd, isNan, nanBits, ofBits, ofFields, toBits, ne}
+use lib.Ieee.Fits.{eq→eqb}
+use lib.Ieee.Bits.{is-true, cond-no, nanBits-is, nanBits-above}
 use lib.Ieee.Compare.{differs-from-itself, nan-differs}
 use lib.Ieee.Exact.{HasValue, odd-sign}
 use Rattle.words.specs.Format.{infinity, quiet, unitsAt, units, ours}
@@ -34,7 +29,7 @@ pub word-number : (f : Format) (w : ℕ) → w % top f ≤ infinity (ours f) →
 word-number f w h = subst (λ (b : Bool). T (not b)) (sym (nanBits-above f w)) (le→nltb (ones f * hid f) (w % top f) h)
 
 -- ---- an infinity's
-fields : (f : Format) (w : ℕ) → ofBits f w ≡ ofFields f (leb (top f) w) (w % top f / hid f) (w % top f % hid f)
+pub fields : (f : Format) (w : ℕ) → ofBits f w ≡ ofFields f (leb (top f) w) (w % top f / hid f) (w % top f % hid f)
 unfolding ofBits
 fields f w = ap (λ (t : ℕ). ofFields f (leb (top f) w) (w % top f / hid f) t) (sym (mod-mod-of-dvd (hid f) w (dvd-mul-right (hid f) (suc (ones f)))))
 
@@ -55,7 +50,7 @@ word-inf f w e =
     ∙ at-ones f s (ones f * hid f / hid f) (mul-div-cancel (ones f) (pow-pos (prec f - 1)))
 
 -- ---- a finite number's: it has the sign, and the magnitude's units
-under-ones : (f : Format) (s : Bool) (t x : ℕ) → suc x < ones f → ofFields f s (suc x) t ≡ odd (prec f) s (hid f + t) x (low f)
+pub under-ones : (f : Format) (s : Bool) (t x : ℕ) → suc x < ones f → ofFields f s (suc x) t ≡ odd (prec f) s (hid f + t) x (low f)
 unfolding ofFields
 under-ones f s t x h = cond-no (eqb (suc x) (ones f)) (cond (eqb t 0) (inf s) nan) (odd (prec f) s (hid f + t) x (low f)) (not-T (eqb (suc x) (ones f)) (λ (u : T (eqb (suc x) (ones f))). differ (suc x) (ones f) h (eqb→eq (suc x) (ones f) u)))
   where

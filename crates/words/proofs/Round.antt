@@ -2,21 +2,21 @@
 use mathlib.Core.Path.{_≡_, refl, sym, ap, _∙_, subst}
 use mathlib.Core.Logic.{_⊎_, inl, inr}
 use Prim.Native.Nat.{ℕ, zero, suc, _+_, _-_, _*_, _/_, _%_, _^_, _≤_, _<_, min, compare}
-use native.Mathlib.Nat.{le-trans, le-of-eq, le-of-lt, le-antisymm, lt-of-lt-of-le, lt-of-le-of-lt, lt-of-not-le, not-le-of-lt, eq-or-lt-of-le, eq-zero-or-pos, add-assoc, mul-one, one-mul, zero-mul, zero-add, mul-comm, mul-assoc, mul-right-comm, mul-left-comm, mul-pos, mul-le-mul-right, mul-le-mul-left, mul-div-cancel, div-one, le-div-iff-mul-le, div-div-eq-div-mul, pow-succ', suc-mul}
+use native.Mathlib.Nat.{le-trans, le-of-eq, lt-of-lt-of-le, lt-of-le-of-lt, not-le-of-lt, eq-or-lt-of-le, add-assoc, mul-one, mul-pos, mul-le-mul-right, mul-div-cancel, le-div-iff-mul-le, div-div-eq-div-mul, suc-mul}
 use native.Mathlib.Omega.{arith}
 use mathlib.Core.Bool.{Bool, true, false, not, cond}
 use lib.Dec.{T, ltb, ltb→lt, nltb→le}
-use lib.Pow.{pow-add, pow-pos, pow-mono, pow-lt, shl-lt}
+use lib.Pow.{pow-add, pow-pos, pow-lt, shl-lt}
 use lib.Count.{trailingZeros}
 use lib.IntN.{ℤ, pos}
 use lib.Ieee as Ieee
-use lib.Ieee.{Float, inf, fin, prec, emax, up, down, minus, size, nearest, odd}
-use lib.Ieee.Digits.{Equals, odd-val, size-lt, size-le, size-reaches}
+use lib.Ieee.{inf, fin, prec, emax, down, minus, size, odd}
+use lib.Ieee.Digits.{Equals, odd-val, size-le, size-reaches}
 use lib.Ieee.Fits.{two, reach, two-le-pos, kept-lt, nearest-le, round-is, down-pos}
-use lib.Ieee.Nearest.{closest, closest-same, div-same, nearest-ge}
+use lib.Ieee.Nearest.{nearest-ge}
 use lib.Ieee.Order.{drop, kept}
-use Rattle.words.specs.Format.{Format, low, hid, ones, top, infinity, signed, ours}
-use Rattle.words.specs.Rounding.{even, roundedAt, rounded}
+use Rattle.words.specs.Format.{Format, low, hid, top, infinity, signed, ours}
+use Rattle.words.specs.Rounding.{rounded}
 use Rattle.words.proofs.Even.{rounded-nearest}
 use Rattle.words.proofs.Digits.{size-gt, size-exact, twice-hid}
 

@@ -1,6 +1,6 @@
 -- The parts of a word: its sign and its size, and where infinity and the NaN stand. Over any format. Assumes nothing.
 use mathlib.Core.Path.{_≡_, ap, sym, _∙_}
-use Prim.Native.Nat.{ℕ, suc, _+_, _-_, _*_, _/_, _%_, _^_, _≤_, _<_}
+use Prim.Native.Nat.{ℕ, suc, _+_, _-_, _*_, _/_, _%_, _≤_, _<_}
 use native.Mathlib.Nat.{zero-add, mul-pos, mod-eq-sub-mod, mod-eq-of-lt, div-eq-of-lt, div-eq-of-lt-le}
 use native.Mathlib.Omega.{arith}
 use native.Mathlib.Decide.{decLt}

@@ -1,0 +1,92 @@
+-- The steps as the machine takes them: a signed number is held as bits and read back, and each test and sum is one on what was read back. Assumes nothing.
+use mathlib.Core.Path.{_≡_, refl, sym, ap, _∙_, subst}
+use Prim.Native.Nat.{suc, _-_, _^_, _≤_}
+use mathlib.Core.Bool.{true, false}
+use lib.Dec.{T}
+use lib.IntN.{ℤ, pos, negsuc, _+ℤ_, _-ℤ_}
+use lib.Signed.{ltZ, _≤ℤ_}
+use lib.Ieee.{Float, Format, emax, ones, mul, fits}
+use mir.Syntax.{Width}
+use mir.Val.{SFits, hbits, toZ, ofZ}
+use mir.ValLaws.{toZ-ofZ}
+use Rattle.scale.specs.Scale.{power}
+use Rattle.scale.specs.Steps.{pastUp, pastDown, fall, stepFloat, stepLeft, between, clamped}
+use Rattle.scale.proofs.Ways.{scale-steps, up-fits, down-fits, left-fits, clamped-normal}
+use Rattle.scale.proofs.Fields.{Field, field-of}
+
+-- what is read back of a number
+abbrev pub held : Width → ℤ → ℤ
+held w z = toZ w (ofZ w z)
+
+-- ---- one step, on each of its three ways: by P, which is 2 ^ emax, by D, which is 2 ^ -(fall + 1), or none
+module _ (f : Format) (w : Width) (x : Float) (n : ℤ) (N : SFits w n) where
+  e : held w n ≡ n
+  e = toZ-ofZ w n N
+
+  pub sub-fits : pastUp f (held w n) ≡ true → SFits w (held w n -ℤ pos (emax f))
+  sub-fits h = up-fits f w (held w n) (subst (SFits w) (sym e) N) h
+
+  pub add-fits : pastDown f (held w n) ≡ true → SFits w (held w n +ℤ pos (suc (fall f)))
+  add-fits h = down-fits f w (held w n) (subst (SFits w) (sym e) N) h
+
+  pub step-up : (P : Float) → P ≡ power (pos (emax f)) → pastUp f (held w n) ≡ true → (mul f x P ≡ stepFloat f x n) × (held w (held w n -ℤ pos (emax f)) ≡ stepLeft f n)
+  unfolding stepFloat stepLeft
+  step-up P p h =
+      let u : pastUp f n ≡ true = ap (pastUp f) (sym e) ∙ h in
+      (ap (mul f x) p ∙ rw u refl, toZ-ofZ w _ (sub-fits h) ∙ rw (e, u) refl)
+
+  pub step-down : (D : Float) → D ≡ power (negsuc (fall f)) → pastUp f (held w n) ≡ false → pastDown f (held w n) ≡ true
+      → (mul f x D ≡ stepFloat f x n) × (held w (held w n +ℤ pos (suc (fall f))) ≡ stepLeft f n)
+  unfolding stepFloat stepLeft
+  step-down D p g h =
+      let u : pastUp f n ≡ false = ap (pastUp f) (sym e) ∙ g in
+      let d : pastDown f n ≡ true = ap (pastDown f) (sym e) ∙ h in
+      (ap (mul f x) p ∙ rw (u, d) refl, toZ-ofZ w _ (add-fits h) ∙ rw (e, u, d) refl)
+
+  pub step-none : pastUp f (held w n) ≡ false → pastDown f (held w n) ≡ false → (x ≡ stepFloat f x n) × (held w n ≡ stepLeft f n)
+  unfolding stepFloat stepLeft
+  step-none g h =
+      let u : pastUp f n ≡ false = ap (pastUp f) (sym e) ∙ g in
+      let d : pastDown f n ≡ false = ap (pastDown f) (sym e) ∙ h in
+      (rw (u, d) refl, e ∙ rw (u, d) refl)
+
+-- ---- a number held between two others
+module _ (w : Width) (l m n : ℤ) (L : SFits w l) (M : SFits w m) (N : SFits w n) where
+  pub clamp-most : ltZ (held w m) (held w n) ≡ true → held w m ≡ between l m n
+  clamp-most h = let u : ltZ m n ≡ true = (λ i. ltZ (sym (toZ-ofZ w m M) i) (sym (toZ-ofZ w n N) i)) ∙ h in toZ-ofZ w m M ∙ rw u refl
+
+  pub clamp-least : ltZ (held w m) (held w n) ≡ false → ltZ (held w n) (held w l) ≡ true → held w l ≡ between l m n
+  clamp-least g h =
+      let u : ltZ m n ≡ false = (λ i. ltZ (sym (toZ-ofZ w m M) i) (sym (toZ-ofZ w n N) i)) ∙ g in
+      let d : ltZ n l ≡ true = (λ i. ltZ (sym (toZ-ofZ w n N) i) (sym (toZ-ofZ w l L) i)) ∙ h in
+      toZ-ofZ w l L ∙ rw (u, d) refl
+
+  pub clamp-none : ltZ (held w m) (held w n) ≡ false → ltZ (held w n) (held w l) ≡ false → held w n ≡ between l m n
+  clamp-none g h =
+      let u : ltZ m n ≡ false = (λ i. ltZ (sym (toZ-ofZ w m M) i) (sym (toZ-ofZ w n N) i)) ∙ g in
+      let d : ltZ n l ≡ false = (λ i. ltZ (sym (toZ-ofZ w n N) i) (sym (toZ-ofZ w l L) i)) ∙ h in
+      toZ-ofZ w n N ∙ rw (u, d) refl
+
+-- ---- the last factor: r is the clamped n, and the field emax + r is that of 2 ^ r
+module _ (f : Format) (w : Width) (n r : ℤ) (N : SFits w n) (R : SFits w r) (c : r ≡ clamped f (held w n)) where
+  pub last-is : held w r ≡ clamped f n
+  last-is = toZ-ofZ w r R ∙ c ∙ ap (clamped f) (toZ-ofZ w n N)
+
+  pub last-field : ones f ≤ 2 ^ hbits w → Field f w (held w r) (held w (pos (emax f) +ℤ held w r))
+  last-field O =
+      let normal : (negsuc (emax f - 2) ≤ℤ held w r) × (held w r ≤ℤ pos (emax f)) = subst (λ (z : ℤ). (negsuc (emax f - 2) ≤ℤ z) × (z ≤ℤ pos (emax f))) (sym last-is) (clamped-normal f n) in
+      field-of f w (held w r) O (normal .0) (normal .1)
+
+-- ---- two steps and the last factor, each handed on as the machine holds it
+pub scale-held : (f : Format) (w : Width) (x y₁ y₂ p : Float) (n n₁ n₂ : ℤ) → T (fits f x) → SFits w n
+    → (y₁ ≡ stepFloat f x (held w n)) × (n₁ ≡ stepLeft f (held w n)) → (y₂ ≡ stepFloat f y₁ (held w n₁)) × (n₂ ≡ stepLeft f (held w n₁))
+    → p ≡ power (clamped f (held w n₂)) → mul f y₂ p ≡ mul f x (power n)
+scale-held f w x y₁ y₂ p n n₁ n₂ X N a b l =
+    let e : held w n ≡ n = toZ-ofZ w n N in
+    let c : n₁ ≡ stepLeft f n = a .1 ∙ ap (stepLeft f) e in
+    let N₁ : SFits w (stepLeft f n) = left-fits f w n N in
+    let c' : held w n₁ ≡ stepLeft f n = ap (held w) c ∙ toZ-ofZ w (stepLeft f n) N₁ in
+    let d : n₂ ≡ stepLeft f (stepLeft f n) = b .1 ∙ ap (stepLeft f) c' in
+    let d' : held w n₂ ≡ stepLeft f (stepLeft f n) = ap (held w) d ∙ toZ-ofZ w (stepLeft f (stepLeft f n)) (left-fits f w (stepLeft f n) N₁) in
+    let y : y₂ ≡ stepFloat f (stepFloat f x n) (stepLeft f n) = b .0 ∙ (λ i. stepFloat f ((a .0 ∙ ap (stepFloat f x) e) i) (c' i)) in
+    (λ i. mul f (y i) ((l ∙ ap (λ (z : ℤ). power (clamped f z)) d') i)) ∙ scale-steps f x n X

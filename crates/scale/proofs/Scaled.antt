@@ -1,0 +1,55 @@
+-- `scaled` is the word of the kit's product with a power of two. Assumes nothing.
+use mathlib.Core.Path.{_≡_, sym, ap, _∙_}
+use Prim.Native.Nat.{ℕ, _*_, _%_, _^_, _≤_, _<_}
+use native.Mathlib.Nat.{mul-assoc, mul-pos}
+use native.Mathlib.Omega.{arith}
+use mathlib.Core.Bool.{Bool, true, false, not, cond}
+use lib.Dec.{T, leb, ltb, eqb, ltb→lt, nltb→le, eqb→eq, T-not}
+use lib.Pow.{pow-pos}
+use lib.IntN.{ℤ}
+use lib.Ieee as Ieee
+use lib.Ieee.{Float, up, down, mul, ofBits, toBits}
+use lib.Ieee.Fits.{eq→eqb, down-pos}
+use lib.Ieee.Exact.{HasValue}
+use Rattle.words.specs.Format.{top, infinity, quiet, signed, units, ours}
+use Rattle.words.specs.Rounding.{rounded}
+use Rattle.scale.specs.Scale.{scaled, power}
+use Rattle.words.proofs.Round.{toBits-round, toBits-inf}
+use Rattle.words.proofs.Rounded.{rounded-same}
+use Rattle.words.proofs.Floats.{word-nan, word-inf, word-val, toBits-nan}
+use Rattle.words.proofs.Words.{sign-and-size}
+use Rattle.scale.proofs.Powers.{mul-val, mul-nan, mul-inf}
+
+-- a finite value of a units
+finite : (f : Ieee.Format) (x : Float) (s : Bool) (a : ℕ) (n : ℤ) → HasValue x s a (2 ^ Ieee.low f) → toBits f (mul f x (power n)) ≡ signed (ours f) s (rounded (ours f) (a * up n) (down n))
+finite f x s a n v =
+    let l = 2 ^ Ieee.low f in
+    ap (toBits f) (mul-val f x s a l n (pow-pos (Ieee.low f)) v)
+    ∙ toBits-round f s (a * up n) (l * down n) (mul-pos (pow-pos (Ieee.low f)) (down-pos n))
+    ∙ ap (signed (ours f) s) (rounded-same (ours f) (a * up n * l) (l * down n) (a * up n) (down n) (mul-pos (pow-pos (Ieee.low f)) (down-pos n)) (down-pos n) (mul-assoc (a * up n) l (down n)))
+
+lt-of-both : (m i : ℕ) → m ≤ i → (m ≡ i → ⊥) → m < i
+lt-of-both m i h n = omega arith
+
+pub scaled-is : (f : Ieee.Format) (w : ℕ) (n : ℤ) → w < 2 * top (ours f) → toBits f (mul f (ofBits f w) (power n)) ≡ scaled (ours f) w n
+unfolding scaled
+scaled-is f w n h = go (ltb i m) (eqb m i) (ltb→lt i m) (nltb→le i m) (eqb→eq m i) (λ (u : T (not (eqb m i))) (e : m ≡ i). T-not (eqb m i) u (eq→eqb e))
+  where
+    m : ℕ
+    m = w % top (ours f)
+
+    i : ℕ
+    i = infinity (ours f)
+
+    s : Bool
+    s = leb (top (ours f)) w
+
+    go : (b c : Bool) → (T b → i < m) → (T (not b) → m ≤ i) → (T c → m ≡ i) → (T (not c) → m ≡ i → ⊥)
+        → toBits f (mul f (ofBits f w) (power n)) ≡ cond b (quiet (ours f)) (cond c w (signed (ours f) s (rounded (ours f) (units (ours f) m * up n) (down n))))
+    go true c a b d e = ap (toBits f) (ap (λ (v : Float). mul f v (power n)) (word-nan f w (a tt)) ∙ mul-nan f n) ∙ toBits-nan f
+    go false true a b d e =
+        ap (toBits f) (ap (λ (v : Float). mul f v (power n)) (word-inf f w (d tt)) ∙ mul-inf f s n)
+        ∙ toBits-inf f s
+        ∙ ap (signed (ours f) s) (sym (d tt))
+        ∙ sign-and-size (top (ours f)) w h
+    go false false a b d e = finite f (ofBits f w) s (units (ours f) m) n (word-val f w (lt-of-both m i (b tt) (e tt)))

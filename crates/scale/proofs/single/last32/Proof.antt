@@ -1,0 +1,30 @@
+-- `scale::single::last32` meets its contract: the word whose field alone is 127 + n is 2 ^ n. Assumes nothing.
+use borrow.Author.Needs.{needs}
+use mathlib.Core.Path.{ap, _∙_}
+use Prim.Native.Nat.{_^_}
+use native.Mathlib.Nat.{lt-of-lt-of-le}
+use lib.Dec.{lit≤}
+use lib.IntN.{pos, _+ℤ_}
+use lib.Ieee.{binary32}
+use mir.Syntax.{w32}
+use Rattle.scale.specs.Scale.{power}
+use Rattle.scale.proofs.Fields.{Field}
+use Rattle.scale.proofs.Machine.{held, last-field, last-is}
+use Rattle.scale.proofs.single.last32.Statement.{statement}
+use Rattle.scale.proofs.single.last32.Tie as tie
+
+field : (c : tie.After-clamp) → Field binary32 w32 (held w32 (c .clamp .result)) (held w32 (pos 127 +ℤ held w32 (c .clamp .result)))
+field c = last-field binary32 w32 (c .before .args .n) (c .clamp .result) (c .before .fits .n) (record { sfits = c .clamp .ok }) (c .clamp .ensures) (lit≤ tt)
+
+returns : tie.Need-returns
+returns c = field c .is-power (2 ^ 32) (lit≤ tt) ∙ ap power (last-is binary32 w32 (c .before .args .n) (c .clamp .result) (c .before .fits .n) (record { sfits = c .clamp .ok }) (c .clamp .ensures))
+
+pub last32-spec : {M : Type 1} → statement M
+last32-spec =
+    tie.close
+    (tie.spec
+    (λ c κs. search needs)
+    (λ c. field c .sum-fits)
+    (λ c. (field c .not-negative, record { fits = lt-of-lt-of-le (field c .within) (lit≤ tt) }))
+    (λ c. field c .number (2 ^ 32) (lit≤ tt))
+    returns)

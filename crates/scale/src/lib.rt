@@ -1,0 +1,5 @@
+// Scaling: x times 2^n for every word x and every i32 n, rounded once, by float multiplications as
+// in the Rust: at most two long steps, then a clamped last one.
+pub mod clamp;
+pub mod double;
+pub mod single;
