@@ -1,12 +1,12 @@
 -- Units of a word by its fields, and of a word that is put together from a field and digits. Over any format. Assumes nothing.
-use mathlib.Core.Path.{_≡_, sym, ap, _∙_}
+use mathlib.Core.Path.{_≡_, sym, ap, _∙_, subst}
 use mathlib.Core.Logic.{_⊎_, inl, inr}
 use Prim.Native.Nat.{ℕ, suc, _+_, _-_, _*_, _/_, _%_, _^_, _≤_, _<_}
-use native.Mathlib.Nat.{eq-zero-or-pos, mul-one, mul-add-div-right, mul-add-mod-self-right, div-eq-of-lt, mod-eq-of-lt}
+use native.Mathlib.Nat.{le-refl, le-trans, le-suc, lt-trans, eq-or-lt-of-le, eq-zero-or-pos, add-suc, pow-succ', div-add-mod', mod-lt, le-div-iff-mul-le, mul-one, mul-add-div-right, mul-add-mod-self-right, div-eq-of-lt, mod-eq-of-lt}
 use native.Mathlib.Omega.{arith}
 use native.Mathlib.Decide.{decLt}
 use lib.Pow.{pow-pos}
-use Rattle.words.specs.Format.{Format, hid, units, unitsAt}
+use Rattle.words.specs.Format.{Format, hid, infinity, units, unitsAt}
 use Rattle.words.proofs.Digits.{twice-hid}
 
 pub units-sub : (f : Format) (w : ℕ) → w / hid f ≡ 0 → w % hid f ≡ units f w
@@ -57,3 +57,106 @@ units-word f k n P N K = elim (decLt n (hid f)) [ yes l ↦ low l (eq-zero-or-po
 
         back : (h n : ℕ) → h ≤ n → h + (n - h) ≡ n
         back h n l = omega arith
+
+-- the digits may also be the carry, 2 ^ digits
+pub units-carry : (f : Format) (k n : ℕ) → 0 < f .digits → n ≤ 2 ^ f .digits → (0 < k → hid f ≤ n) → units f (k * hid f + n) ≡ n * 2 ^ k
+units-carry f k n P N K = elim (eq-or-lt-of-le N) [
+  | inl e ↦
+      let two : n ≡ 2 * hid f = e ∙ twice-hid (f .digits) P in
+      ap (units f) (into-field k (hid f) n two)
+      ∙ units-word f (suc k) (hid f) P (subst (λ (z : ℕ). hid f < z) (sym (twice-hid (f .digits) P)) (more (hid f) (pow-pos (f .digits - 1)))) (λ h. le-refl (hid f))
+      ∙ ap (λ (z : ℕ). hid f * z) (pow-succ' 2 k)
+      ∙ doubled (hid f) (2 ^ k) n two
+  | inr l ↦ units-word f k n P l K
+]
+  where
+    into-field : (k h n : ℕ) → n ≡ 2 * h → k * h + n ≡ suc k * h + h
+    into-field k h n e = omega arith
+
+    more : (h : ℕ) → 0 < h → h < 2 * h
+    more h p = omega arith
+
+    doubled : (h u n : ℕ) → n ≡ 2 * h → h * (2 * u) ≡ n * u
+    doubled h u n e = omega (arith, ap (λ (z : ℕ). z * u) e)
+
+-- the next word has more units
+pub units-step : (f : Format) → 0 < f .digits → (w : ℕ) → units f w < units f (suc w)
+units-step f P w = elim (decLt w (hid f)) [
+  | yes l ↦ go 0 w w (sym (zero-field (hid f) w)) (lt-trans l (below (hid f) (2 ^ f .digits) H two)) (λ h. absurd (never h))
+  | no l ↦
+      go (w / hid f - 1) (hid f + w % hid f) w (sym (split w (hid f) (w / hid f) (w / hid f - 1) (w % hid f) (back (w / hid f) (le-div-iff-mul-le H .1 (at-least w (hid f) l))) (div-add-mod' w (hid f)))) (full (w % hid f) (hid f) (2 ^ f .digits) two (mod-lt w H)) (λ h. grown (hid f) (w % hid f))
+]
+  where
+    H : 0 < hid f
+    H = pow-pos (f .digits - 1)
+
+    two : 2 ^ f .digits ≡ 2 * hid f
+    two = twice-hid (f .digits) P
+
+    below : (h t : ℕ) → 0 < h → t ≡ 2 * h → h < t
+    below h t p e = omega arith
+
+    never : 0 < 0 → ⊥
+    never h = omega arith
+
+    zero-field : (h w : ℕ) → 0 * h + w ≡ w
+    zero-field h w = omega arith
+
+    at-least : (w h : ℕ) → ¬ (w < h) → 1 * h ≤ w
+    at-least w h l = omega arith
+
+    back : (y : ℕ) → 1 ≤ y → y ≡ y - 1 + 1
+    back y l = omega arith
+
+    split : (w h y x t : ℕ) → y ≡ x + 1 → y * h + t ≡ w → x * h + (h + t) ≡ w
+    split w h y x t n e = omega (arith, e, ap (λ (z : ℕ). z * h) n)
+
+    full : (t h u : ℕ) → u ≡ 2 * h → t < h → h + t < u
+    full t h u e l = omega arith
+
+    grown : (h t : ℕ) → h ≤ h + t
+    grown h t = omega arith
+
+    go : (k n w : ℕ) → w ≡ k * hid f + n → n < 2 ^ f .digits → (0 < k → hid f ≤ n) → units f w < units f (suc w)
+    go k n w e N K =
+        subst (λ (z : ℕ). units f z < units f (suc z)) (sym e)
+        (less (units f (k * hid f + n)) (units f (suc (k * hid f + n))) n (2 ^ k) (pow-pos k) (units-word f k n P N K) (ap (units f) (sym (add-suc (k * hid f) n)) ∙ units-carry f k (suc n) P N (λ h. le-trans (K h) (le-suc n))))
+      where
+        less : (x y n u : ℕ) → 0 < u → x ≡ n * u → y ≡ suc n * u → x < y
+        less x y n u U a b = omega arith
+
+-- ---- the largest finite number, and what would be the next
+module _ (f : Format) (P : 0 < f .digits) (E : 1 ≤ f .emax) where
+  H : 0 < hid f
+  H = pow-pos (f .digits - 1)
+
+  two : 2 ^ f .digits ≡ 2 * hid f
+  two = twice-hid (f .digits) P
+
+  back : (e : ℕ) → 1 ≤ e → 2 * e ≡ 2 * e - 1 + 1
+  back e h = omega arith
+
+  pub units-largest : units f (infinity f - 1) ≡ (2 ^ f .digits - 1) * 2 ^ (2 * f .emax - 1)
+  units-largest =
+      ap (units f) (last (hid f) (f .emax) (2 * f .emax - 1) (2 ^ f .digits) H (back (f .emax) E) two)
+      ∙ units-carry f (2 * f .emax - 1) (2 ^ f .digits - 1) P (less (2 ^ f .digits)) (λ h. full (hid f) (2 ^ f .digits) H two)
+    where
+      last : (h e d t : ℕ) → 0 < h → 2 * e ≡ d + 1 → t ≡ 2 * h → (2 * e + 1) * h - 1 ≡ d * h + (t - 1)
+      last h e d t p n w = omega (arith, ap (λ (z : ℕ). z * h) n)
+
+      less : (t : ℕ) → t - 1 ≤ t
+      less t = omega arith
+
+      full : (h t : ℕ) → 0 < h → t ≡ 2 * h → h ≤ t - 1
+      full h t p w = omega arith
+
+  pub units-infinity : units f (infinity f) ≡ 2 ^ f .digits * 2 ^ (2 * f .emax - 1)
+  units-infinity =
+      ap (units f) (end (hid f) (f .emax) (2 * f .emax - 1) (2 ^ f .digits) (back (f .emax) E) two)
+      ∙ units-carry f (2 * f .emax - 1) (2 ^ f .digits) P (le-refl (2 ^ f .digits)) (λ h. full (hid f) (2 ^ f .digits) two)
+    where
+      end : (h e d t : ℕ) → 2 * e ≡ d + 1 → t ≡ 2 * h → (2 * e + 1) * h ≡ d * h + t
+      end h e d t n w = omega (arith, ap (λ (z : ℕ). z * h) n)
+
+      full : (h t : ℕ) → t ≡ 2 * h → h ≤ t
+      full h t w = omega arith
