@@ -7,3 +7,5 @@ pub mod Rounded
 pub mod Round
 pub mod Floats
 pub mod Products
+pub mod Grid
+pub mod Nearest

@@ -30,15 +30,15 @@ rounded-same f a b c d B D e = let v = cut-same f a b c d B D e in sym (λ i. ro
 
 -- ---- half of what is kept is the whole part
 module _ (f : Format) (num den : ℕ) (P : 0 < f .digits) (D : 0 < den) where
-  half-kept : kept f num den / 2 ≡ num / (den * 2 ^ places f num den)
+  pub half-kept : kept f num den / 2 ≡ num / (den * 2 ^ places f num den)
   half-kept =
       let u = den * 2 ^ places f num den in
       div-div-eq-div-mul (2 * num) u 2 ∙ ap (λ (z : ℕ). 2 * num / z) (mul-comm u 2) ∙ mul-div-mul-left num u (omega arith)
 
-  half-below : kept f num den / 2 < 2 ^ f .digits
+  pub half-below : kept f num den / 2 < 2 ^ f .digits
   half-below = subst (λ (z : ℕ). z < 2 ^ f .digits) (div-div-eq-div-mul num den (2 ^ places f num den) ∙ sym half-kept) (kept-lt (f .digits) (num / den))
 
-  half-full : 0 < places f num den → hid f ≤ kept f num den / 2
+  pub half-full : 0 < places f num den → hid f ≤ kept f num den / 2
   half-full K =
       let k = places f num den in
       let p = f .digits in
