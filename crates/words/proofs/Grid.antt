@@ -1,17 +1,18 @@
--- A rising sequence of numbers and the term of it that is nearest to a number v, a tie to the even place: shown from the two terms around v, by their middle, and then said by distances. Nothing here is about words. Assumes nothing.
-use mathlib.Core.Path.{_≡_, sym, ap, subst}
+-- A rising sequence of numbers and the term of it that is nearest to a number, a tie to the even place: shown from the two terms around the number, by their middle, and then said by distances.
+-- Twice a middle is a sum of two terms. The number itself need not be whole: it is given by v, what a rising s makes of twice it. Nothing here is about words. Assumes nothing.
+use mathlib.Core.Path.{_≡_, sym, ap, _∙_, subst}
 use Prim.Native.Nat.{ℕ, zero, suc, _+_, _*_, _%_, _≤_, _<_}
-use native.Mathlib.Nat.{lt-trans}
+use native.Mathlib.Nat.{le-trans, le-of-eq, le-of-lt, le-of-suc-le-suc, lt-trans, lt-of-lt-of-le}
 use native.Mathlib.Omega.{arith}
 use native.Mathlib.Decide.{decLt}
 use Rattle.words.specs.Nearest.{distance}
 
--- v is at or between the middles around g r, and at one of them only where r is even
-pub record Between (g : ℕ → ℕ) (v r : ℕ) : Type 0 where
-  pub above : (w : ℕ) → w < r → g w + g r ≤ 2 * v
-  pub above-even : (w : ℕ) → w < r → g w + g r ≡ 2 * v → r % 2 ≡ 0
-  pub below : (w : ℕ) → r < w → 2 * v ≤ g r + g w
-  pub below-even : (w : ℕ) → r < w → g r + g w ≡ 2 * v → r % 2 ≡ 0
+-- the number is at or between the middles around g r, and at one of them only where r is even
+pub record Between (g s : ℕ → ℕ) (v r : ℕ) : Type 0 where
+  pub above : (w : ℕ) → w < r → s (g w + g r) ≤ v
+  pub above-even : (w : ℕ) → w < r → s (g w + g r) ≡ v → r % 2 ≡ 0
+  pub below : (w : ℕ) → r < w → v ≤ s (g r + g w)
+  pub below-even : (w : ℕ) → r < w → s (g r + g w) ≡ v → r % 2 ≡ 0
 
 -- of all places below `most`, none is nearer to v than r, and where one is as near r is even
 pub record Closest (g : ℕ → ℕ) (v most r : ℕ) : Type 0 where
@@ -19,12 +20,12 @@ pub record Closest (g : ℕ → ℕ) (v most r : ℕ) : Type 0 where
   pub ties-even : (w : ℕ) → w < most → ¬ (w ≡ r) → distance (g w) v ≡ distance (g r) v → r % 2 ≡ 0
 
 -- two places are in one order or the other
-data Order (a b : ℕ) : Type 0 where
+pub data Order (a b : ℕ) : Type 0 where
   less : a < b → Order a b
   same : a ≡ b → Order a b
   more : b < a → Order a b
 
-order : (a b : ℕ) → Order a b
+pub order : (a b : ℕ) → Order a b
 order a b = elim (decLt a b) [
   | yes l ↦ less l
   | no l ↦ elim (decLt b a) [ yes m ↦ more m | no m ↦ same (neither a b l m) ]
@@ -32,6 +33,12 @@ order a b = elim (decLt a b) [
   where
     neither : (a b : ℕ) → ¬ (a < b) → ¬ (b < a) → a ≡ b
     neither a b l m = omega arith
+
+apart : (a b : ℕ) → a < b → a ≡ b → ⊥
+apart a b h e = omega arith
+
+squeezed : (x y z : ℕ) → x ≤ y → y ≤ z → z ≡ x → y ≡ x
+squeezed x y z p q e = omega arith
 
 module _ (g : ℕ → ℕ) (step : (w : ℕ) → g w < g (suc w)) where
   pub rises : (a b : ℕ) → a < b → g a < g b
@@ -50,76 +57,69 @@ module _ (g : ℕ → ℕ) (step : (w : ℕ) → g w < g (suc w)) where
 
   pub rises-le : (a b : ℕ) → a ≤ b → g a ≤ g b
   rises-le a b h = elim (order a b) [
-    | less l ↦ weak (g a) (g b) (rises a b l)
-    | same e ↦ level (g a) (g b) (ap g e)
+    | less l ↦ le-of-lt (rises a b l)
+    | same e ↦ le-of-eq (ap g e)
     | more m ↦ absurd (past a b m h)
   ]
     where
-      weak : (x y : ℕ) → x < y → x ≤ y
-      weak x y h = omega arith
-
-      level : (x y : ℕ) → x ≡ y → x ≤ y
-      level x y h = omega arith
-
       past : (a b : ℕ) → b < a → a ≤ b → ⊥
       past a b m h = omega arith
 
-  -- ---- from the two terms around v: the lower one up to their middle, the upper one from there on
-  pub between-lower : (v a : ℕ) → g a ≤ v → 2 * v ≤ g a + g (suc a) → (g a + g (suc a) ≡ 2 * v → a % 2 ≡ 0) → Between g v a
-  between-lower v a L M E = record {
-    above = λ w h. under (g w) (g a) v (rises w a h) L;
-    above-even = λ w h e. absurd (apart (g w) (g a) v (rises w a h) L e);
-    below = λ w h. over (g a) (g (suc a)) (g w) v M (rises-le (suc a) w h);
-    below-even = λ w h e. E (middle (g a) (g (suc a)) (g w) v M (rises-le (suc a) w h) e);
+-- ---- from the two terms around the number: the lower one up to their middle, the upper one from there on
+module _ (g s : ℕ → ℕ) (step : (w : ℕ) → g w < g (suc w)) (step-s : (w : ℕ) → s w < s (suc w)) (v a : ℕ) where
+  pub between-lower : s (g a + g a) ≤ v → v ≤ s (g a + g (suc a)) → (s (g a + g (suc a)) ≡ v → a % 2 ≡ 0) → Between g s v a
+  between-lower L M E = record {
+    above = λ w h. le-of-lt (under w h);
+    above-even = λ w h e. absurd (apart (s (g w + g a)) v (under w h) e);
+    below = λ w h. le-trans M (over w h);
+    below-even = λ w h e. E (squeezed v (s (g a + g (suc a))) (s (g a + g w)) M (over w h) e);
   }
     where
-      under : (x y v : ℕ) → x < y → y ≤ v → x + y ≤ 2 * v
-      under x y v h l = omega arith
+      under : (w : ℕ) → w < a → s (g w + g a) < v
+      under w h = lt-of-lt-of-le (rises s step-s (g w + g a) (g a + g a) (more (g w) (g a) (g a) (rises g step w a h))) L
+        where
+          more : (x y z : ℕ) → x < y → x + z < y + z
+          more x y z l = omega arith
 
-      apart : (x y v : ℕ) → x < y → y ≤ v → x + y ≡ 2 * v → ⊥
-      apart x y v h l e = omega arith
+      over : (w : ℕ) → a < w → s (g a + g (suc a)) ≤ s (g a + g w)
+      over w h = rises-le s step-s (g a + g (suc a)) (g a + g w) (more (g (suc a)) (g w) (g a) (rises-le g step (suc a) w h))
+        where
+          more : (x y z : ℕ) → x ≤ y → z + x ≤ z + y
+          more x y z l = omega arith
 
-      over : (x y z v : ℕ) → 2 * v ≤ x + y → y ≤ z → 2 * v ≤ x + z
-      over x y z v m h = omega arith
-
-      middle : (x y z v : ℕ) → 2 * v ≤ x + y → y ≤ z → x + z ≡ 2 * v → x + y ≡ 2 * v
-      middle x y z v m h e = omega arith
-
-  pub between-upper : (v a : ℕ) → v < g (suc a) → g a + g (suc a) ≤ 2 * v → (g a + g (suc a) ≡ 2 * v → suc a % 2 ≡ 0) → Between g v (suc a)
-  between-upper v a U M E = record {
-    above = λ w h. under (g w) (g a) (g (suc a)) v M (rises-le w a (before w a h));
-    above-even = λ w h e. E (middle (g w) (g a) (g (suc a)) v M (rises-le w a (before w a h)) e);
-    below = λ w h. over (g (suc a)) (g w) v U (rises (suc a) w h);
-    below-even = λ w h e. absurd (apart (g (suc a)) (g w) v U (rises (suc a) w h) e);
+  pub between-upper : v < s (g (suc a) + g (suc a)) → s (g a + g (suc a)) ≤ v → (s (g a + g (suc a)) ≡ v → suc a % 2 ≡ 0) → Between g s v (suc a)
+  between-upper U M E = record {
+    above = λ w h. le-trans (under w h) M;
+    above-even = λ w h e. E (squeezed (s (g w + g (suc a))) (s (g a + g (suc a))) v (under w h) M (sym e) ∙ e);
+    below = λ w h. le-of-lt (over w h);
+    below-even = λ w h e. absurd (apart v (s (g (suc a) + g w)) (over w h) (sym e));
   }
     where
-      before : (w a : ℕ) → w < suc a → w ≤ a
-      before w a h = omega arith
+      under : (w : ℕ) → w < suc a → s (g w + g (suc a)) ≤ s (g a + g (suc a))
+      under w h = rises-le s step-s (g w + g (suc a)) (g a + g (suc a)) (more (g w) (g a) (g (suc a)) (rises-le g step w a (le-of-suc-le-suc h)))
+        where
+          more : (x y z : ℕ) → x ≤ y → x + z ≤ y + z
+          more x y z l = omega arith
 
-      under : (z x y v : ℕ) → x + y ≤ 2 * v → z ≤ x → z + y ≤ 2 * v
-      under z x y v m h = omega arith
+      over : (w : ℕ) → suc a < w → v < s (g (suc a) + g w)
+      over w h = lt-trans U (rises s step-s (g (suc a) + g (suc a)) (g (suc a) + g w) (more (g (suc a)) (g w) (g (suc a)) (rises g step (suc a) w h)))
+        where
+          more : (x y z : ℕ) → x < y → z + x < z + y
+          more x y z l = omega arith
 
-      middle : (z x y v : ℕ) → x + y ≤ 2 * v → z ≤ x → z + y ≡ 2 * v → x + y ≡ 2 * v
-      middle z x y v m h e = omega arith
-
-      over : (x y v : ℕ) → v < x → x < y → 2 * v ≤ x + y
-      over x y v u h = omega arith
-
-      apart : (x y v : ℕ) → v < x → x < y → x + y ≡ 2 * v → ⊥
-      apart x y v u h e = omega arith
-
+module _ (g : ℕ → ℕ) (step : (w : ℕ) → g w < g (suc w)) where
   -- ---- said by distances, of all places or of those below `most`
-  pub between-closest : (v most r : ℕ) → Between g v r → Closest g v most r
+  pub between-closest : (v most r : ℕ) → Between g (λ (m : ℕ). m) (2 * v) r → Closest g v most r
   between-closest v most r b = record {
     none-nearer = λ w W. elim (order w r) [
-      | less l ↦ near-above (g w) (g r) v (rises w r l) (b .above w l)
+      | less l ↦ near-above (g w) (g r) v (rises g step w r l) (b .above w l)
       | same e ↦ level (g w) (g r) v (ap g e)
-      | more m ↦ near-below (g w) (g r) v (rises r w m) (b .below w m)
+      | more m ↦ near-below (g w) (g r) v (rises g step r w m) (b .below w m)
     ];
     ties-even = λ w W n d. elim (order w r) [
-      | less l ↦ b .above-even w l (tie-above (g w) (g r) v (rises w r l) (b .above w l) d)
+      | less l ↦ b .above-even w l (tie-above (g w) (g r) v (rises g step w r l) (b .above w l) d)
       | same e ↦ absurd (n e)
-      | more m ↦ b .below-even w m (tie-below (g w) (g r) v (rises r w m) (b .below w m) d)
+      | more m ↦ b .below-even w m (tie-below (g w) (g r) v (rises g step r w m) (b .below w m) d)
     ];
   }
     where
@@ -139,10 +139,10 @@ module _ (g : ℕ → ℕ) (step : (w : ℕ) → g w < g (suc w)) where
       tie-below x y v h m e = omega arith
 
   -- ---- with an even end: the place is past the end from the middle below the end on, and before it below that middle
-  module _ (v r end : ℕ) (b : Between g v r) (even : suc end % 2 ≡ 0) where
+  module _ (v r end : ℕ) (b : Between g (λ (m : ℕ). m) (2 * v) r) (even : suc end % 2 ≡ 0) where
     pub between-past : g end + g (suc end) ≤ 2 * v → end < r
     between-past h = elim (order r end) [
-      | less l ↦ absurd (high (g r) (g end) (g (suc end)) v (rises r end l) (b .below (suc end) (later r end l)) h)
+      | less l ↦ absurd (high (g r) (g end) (g (suc end)) v (rises g step r end l) (b .below (suc end) (later r end l)) h)
       | same e ↦ absurd (odd end r even e (b .below-even (suc end) (next r end e) (level (g r) (g end) (g (suc end)) v (ap g e) (b .below (suc end) (next r end e)) h)))
       | more m ↦ m
     ]
@@ -164,7 +164,7 @@ module _ (g : ℕ → ℕ) (step : (w : ℕ) → g w < g (suc w)) where
 
     pub between-before : 2 * v < g end + g (suc end) → r ≤ end
     between-before h = elim (decLt end r) [
-      | yes l ↦ absurd (low (g end) (g (suc end)) (g r) v (rises-le (suc end) r l) (b .above end l) h)
+      | yes l ↦ absurd (low (g end) (g (suc end)) (g r) v (rises-le g step (suc end) r l) (b .above end l) h)
       | no l ↦ at-most r end l
     ]
       where
@@ -180,7 +180,7 @@ module _ (g : ℕ → ℕ) (step : (w : ℕ) → g w < g (suc w)) where
       let d : distance (g r) v ≡ distance (g s) v = level (distance (g r) v) (distance (g s) v) (x .none-nearer s S) (y .none-nearer r (lt-trans h S)) in
       let a : r % 2 ≡ 0 = x .ties-even s S (apart h) (sym d) in
       let b : s % 2 ≡ 0 = y .ties-even r (lt-trans h S) (apart' h) d in
-      nearer (g r) (g (suc r)) (g s) v (step r) (rises (suc r) s (gap r s h a b)) d (x .none-nearer (suc r) (lt-trans (gap r s h a b) S))
+      nearer (g r) (g (suc r)) (g s) v (step r) (rises g step (suc r) s (gap r s h a b)) d (x .none-nearer (suc r) (lt-trans (gap r s h a b) S))
     where
       level : (a b : ℕ) → a ≤ b → b ≤ a → a ≡ b
       level a b p q = omega arith

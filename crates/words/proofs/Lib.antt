@@ -8,4 +8,6 @@ pub mod Round
 pub mod Floats
 pub mod Products
 pub mod Grid
+pub mod Ties
 pub mod Nearest
+pub mod NearestRoot

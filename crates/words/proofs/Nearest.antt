@@ -1,22 +1,21 @@
 -- `rounded` is IEEE 754's rounding to nearest, ties to even, and no other word meets what that asks. Over any format.
--- The words' units rise; num / den units lie at or above those of one word and below those of the next, and `rounded` takes the one or the other by the middle, as Grid asks. Assumes nothing.
-use mathlib.Core.Path.{_≡_, refl, sym, ap, _∙_, subst}
-use Prim.Native.Nat.{ℕ, zero, suc, _+_, _-_, _*_, _/_, _%_, _^_, _≤_, _<_, min, compare, Ordering, Ordering·lt, Ordering·eq, Ordering·gt}
-use native.Mathlib.Nat.{le-trans, le-of-eq, le-of-lt, le-suc, lt-of-not-le, add-suc, div-mul-le-self, div-add-mod', mod-lt, mul-pos, mul-lt-mul-of-pos-right}
+-- The words' units rise; num / den units lie at or above those of one word and below those of the next, and the rule takes the one or the other by the middle (Ties), which distances say too (Grid). Assumes nothing.
+use mathlib.Core.Path.{_≡_, sym, ap, _∙_, subst}
+use Prim.Native.Nat.{ℕ, suc, _+_, _-_, _*_, _/_, _%_, _^_, _≤_, _<_, min}
+use native.Mathlib.Nat.{le-refl, lt-of-not-le, div-mul-le-self, div-add-mod', mod-lt, mul-pos, mul-lt-mul-of-pos-right}
 use native.Mathlib.Omega.{arith}
 use native.Mathlib.Decide.{decLe}
+use borrow.Author.Tests.{ltb-true, ltb-false}
 use lib.Pow.{pow-add, pow-pos}
-use lib.Ieee.{nearest}
-use lib.Ieee.Nearest.{closest}
+use lib.Ieee.Fits.{two-le-pos}
 use Rattle.words.specs.Format.{Format, hid, infinity, units}
-use Rattle.words.specs.Rounding.{places, rounded}
+use Rattle.words.specs.Rounding.{even, places, kept, rest, wordAt, roundedAt, rounded}
 use Rattle.words.specs.Nearest.{overflowFrom, Nearest}
-use Rattle.words.proofs.Digits.{twice-hid}
 use Rattle.words.proofs.Words.{infinity-some}
-use Rattle.words.proofs.Units.{units-carry, units-step, units-largest, units-infinity}
-use Rattle.words.proofs.Even.{Cmp, cmp, rounded-nearest}
-use Rattle.words.proofs.Rounded.{half-kept, half-below, half-full}
-use Rattle.words.proofs.Grid.{Between, Closest, between-lower, between-upper, between-closest, between-past, between-before, closest-unique}
+use Rattle.words.proofs.Units.{units-step, units-largest, units-infinity}
+use Rattle.words.proofs.Rounded.{half-below, half-full}
+use Rattle.words.proofs.Grid.{Between, Closest, between-closest, between-past, between-before, closest-unique}
+use Rattle.words.proofs.Ties.{units-floor, units-next, hid-even, word-parity, cut-between}
 
 -- ---- where infinity begins: half a spacing above the largest finite number, and so in the middle between it and what would be the next
 module _ (f : Format) (P : 0 < f .digits) (E : 1 ≤ f .emax) where
@@ -50,129 +49,54 @@ scaled f den w = units f w * den
 scaled-step : (f : Format) (den : ℕ) → 0 < f .digits → 0 < den → (w : ℕ) → scaled f den w < scaled f den (suc w)
 scaled-step f den P D w = mul-lt-mul-of-pos-right (units-step f P w) D
 
-some-digit : (p : ℕ) → 2 ≤ p → 0 < p
-some-digit p h = omega arith
-
-hid-even : (f : Format) → 2 ≤ f .digits → hid f ≡ 2 * 2 ^ (f .digits - 1 - 1)
-hid-even f P = twice-hid (f .digits - 1) (less (f .digits) P)
+rounded-capped : (f : Format) (num den : ℕ) → rounded f num den ≡ min (wordAt even f (places f num den) (kept f num den) (rest f num den)) (infinity f)
+unfolding roundedAt
+rounded-capped f num den = ap (λ (z : ℕ). min (wordAt even f (places f num den) (kept f num den) (rest f num den)) z) (whole (infinity f) (infinity-some f))
   where
-    less : (p : ℕ) → 2 ≤ p → 0 < p - 1
-    less p h = omega arith
-
-over : (n s d : ℕ) → n * s * d ≡ n * (d * s)
-over n s d = omega arith
+    whole : (n : ℕ) → 0 < n → n - 1 + 1 ≡ n
+    whole n h = omega arith
 
 -- ---- the word, its exponent without limit, is at or between the middles around it
 module _ (f : Format) (num den : ℕ) (P : 2 ≤ f .digits) (D : 0 < den) where
   abbrev k : ℕ
   k = places f num den
 
-  abbrev u : ℕ
-  u = den * 2 ^ k
-
   abbrev q : ℕ
-  q = num / u
+  q = kept f num den
 
   abbrev floor : ℕ
-  floor = k * hid f + q
+  floor = k * hid f + q / 2
 
   P1 : 0 < f .digits
-  P1 = some-digit (f .digits) P
+  P1 = two-le-pos (f .digits) P
 
-  small : q < 2 ^ f .digits
-  small = subst (λ (z : ℕ). z < 2 ^ f .digits) (half-kept f num den P1 D) (half-below f num den P1 D)
+  over-den : (n s d m : ℕ) → m ≡ n * s → m * d ≡ n * (d * s)
+  over-den n s d m e = omega (arith, ap (λ (z : ℕ). z * d) e)
 
-  full : 0 < k → hid f ≤ q
-  full h = subst (λ (z : ℕ). hid f ≤ z) (half-kept f num den P1 D) (half-full f num den P1 D h)
-
-  lower-is : scaled f den floor ≡ q * u
-  lower-is = ap (λ (z : ℕ). z * den) (units-carry f k q P1 (le-of-lt small) full) ∙ over q (2 ^ k) den
-
-  upper-is : scaled f den (suc floor) ≡ suc q * u
-  upper-is =
-      ap (λ (z : ℕ). units f z * den) (sym (add-suc (k * hid f) q)) ∙ ap (λ (z : ℕ). z * den) (units-carry f k (suc q) P1 small (λ h. le-trans (full h) (le-suc q))) ∙ over (suc q) (2 ^ k) den
-
-  floor-odd : floor % 2 ≡ q % 2
-  floor-odd = go k (hid f) (2 ^ (f .digits - 1 - 1)) q (hid-even f P)
+  word-between : Between (scaled f den) (λ (m : ℕ). m) (2 * num) (wordAt even f k q (rest f num den))
+  unfolding wordAt
+  word-between =
+      cut-between (scaled f den) (λ (m : ℕ). m) (scaled-step f den P1 D) (λ w. le-refl (suc w)) (2 * num) floor (den * 2 ^ k) q
+      (over-den (q / 2) (2 ^ k) den (units f floor) (units-floor f k (q / 2) P1 (half-below f num den P1 D) (half-full f num den P1 D)))
+      (over-den (suc (q / 2)) (2 ^ k) den (units f (suc floor)) (units-next f k (q / 2) P1 (half-below f num den P1 D) (half-full f num den P1 D)))
+      (word-parity f k (q / 2) P)
+      (div-mul-le-self (2 * num) (den * 2 ^ k))
+      (past (2 * num) q (den * 2 ^ k) (2 * num % (den * 2 ^ k)) sum (mod-lt (2 * num) (mul-pos D (pow-pos k))))
+      (rest f num den)
+      (λ e. left (2 * num) (q * (den * 2 ^ k)) (2 * num % (den * 2 ^ k)) sum (ltb-true 0 (2 * num % (den * 2 ^ k)) e))
+      (λ e. none (2 * num) (q * (den * 2 ^ k)) (2 * num % (den * 2 ^ k)) sum (ltb-false 0 (2 * num % (den * 2 ^ k)) e))
     where
-      go : (i h j n : ℕ) → h ≡ 2 * j → (i * h + n) % 2 ≡ n % 2
-      go i h j n e = omega (arith, ap (λ (z : ℕ). i * z) e)
+      sum : q * (den * 2 ^ k) + 2 * num % (den * 2 ^ k) ≡ 2 * num
+      sum = div-add-mod' (2 * num) (den * 2 ^ k)
 
-  word-between : Between (scaled f den) num (k * hid f + closest num u)
-  word-between = go (compare (num % u * 2) u) (cmp (num % u * 2) u)
-    where
-      r : ℕ
-      r = num % u
+      past : (n c d r : ℕ) → c * d + r ≡ n → r < d → n < suc c * d
+      past n c d r e l = omega arith
 
-      x : ℕ
-      x = scaled f den floor
+      left : (n c r : ℕ) → c + r ≡ n → 0 < r → c < n
+      left n c r e l = omega arith
 
-      y : ℕ
-      y = scaled f den (suc floor)
-
-      sum : q * u + r ≡ num
-      sum = div-add-mod' num u
-
-      step : (w : ℕ) → scaled f den w < scaled f den (suc w)
-      step = scaled-step f den P1 D
-
-      at-or-above : x ≤ num
-      at-or-above = le-trans (le-of-eq lower-is) (div-mul-le-self num u)
-
-      under : num < y
-      under = less y q u r num upper-is sum (mod-lt num (mul-pos D (pow-pos k)))
-        where
-          less : (b n d t v : ℕ) → b ≡ suc n * d → n * d + t ≡ v → t < d → v < b
-          less b n d t v e s l = omega arith
-
-      middle : x + y ≡ 2 * (q * u) + u
-      middle = add x y q u lower-is upper-is
-        where
-          add : (a b n d : ℕ) → a ≡ n * d → b ≡ suc n * d → a + b ≡ 2 * (n * d) + d
-          add a b n d e g = omega arith
-
-      below : (m a t d v : ℕ) → m ≡ 2 * a + d → a + t ≡ v → t * 2 < d → 2 * v < m
-      below m a t d v e s l = omega arith
-
-      at : (m a t d v : ℕ) → m ≡ 2 * a + d → a + t ≡ v → t * 2 ≡ d → m ≡ 2 * v
-      at m a t d v e s l = omega arith
-
-      above : (m a t d v : ℕ) → m ≡ 2 * a + d → a + t ≡ v → d < t * 2 → m < 2 * v
-      above m a t d v e s l = omega arith
-
-      apart : (a b : ℕ) → a < b → a ≡ b → ⊥
-      apart a b h e = omega arith
-
-      next-even : (n m : ℕ) → n % 2 ≡ m → m ≡ 1 → suc n % 2 ≡ 0
-      next-even n m e o = omega arith
-
-      kept : (a n m : ℕ) → m ≡ 0 → a + n ≡ a + (n + m)
-      kept a n m e = omega arith
-
-      raised : (a n m : ℕ) → m ≡ 1 → suc (a + n) ≡ a + (n + m)
-      raised a n m e = omega arith
-
-      even-or-odd : (m : ℕ) → q % 2 ≡ m → x + y ≡ 2 * num → Between (scaled f den) num (k * hid f + (q + q % 2))
-      even-or-odd zero e t =
-          subst (λ (z : ℕ). Between (scaled f den) num z) (kept (k * hid f) q (q % 2) e)
-          (between-lower (scaled f den) step num floor at-or-above (le-of-eq (sym t)) (λ _. floor-odd ∙ e))
-      even-or-odd (suc zero) e t =
-          subst (λ (z : ℕ). Between (scaled f den) num z) (raised (k * hid f) q (q % 2) e)
-          (between-upper (scaled f den) step num floor under (le-of-eq t) (λ _. next-even floor (q % 2) floor-odd e))
-      even-or-odd (suc (suc m)) e t = absurd (no q m e)
-        where
-          no : (n m : ℕ) → n % 2 ≡ suc (suc m) → ⊥
-          no n m e = omega arith
-
-      go : (o : Ordering) → Cmp o (r * 2) u → Between (scaled f den) num (k * hid f + nearest q o)
-      go Ordering·lt c =
-          let m : 2 * num < x + y = below (x + y) (q * u) r u num middle sum c in
-          between-lower (scaled f den) step num floor at-or-above (le-of-lt m) (λ e. absurd (apart (2 * num) (x + y) m (sym e)))
-      go Ordering·eq c = even-or-odd (q % 2) refl (at (x + y) (q * u) r u num middle sum c)
-      go Ordering·gt c =
-          let m : x + y < 2 * num = above (x + y) (q * u) r u num middle sum c in
-          subst (λ (z : ℕ). Between (scaled f den) num z) (sym (add-suc (k * hid f) q))
-          (between-upper (scaled f den) step num floor under (le-of-lt m) (λ e. absurd (apart (x + y) (2 * num) m e)))
+      none : (n c r : ℕ) → c + r ≡ n → r ≤ 0 → c ≡ n
+      none n c r e l = omega arith
 
 -- ---- the laws. An exponent's range of at least 1 is asked because without it no number is normal, and the spacing below infinity is not what IEEE 754's formula says; two digits because with one only the exponent's field tells even from odd.
 pub rounded-is-nearest : (f : Format) (num den : ℕ) → 2 ≤ f .digits → 1 ≤ f .emax → 0 < den → Nearest f num den (rounded f num den)
@@ -184,18 +108,18 @@ rounded-is-nearest f num den P E D = record {
 }
   where
     P1 : 0 < f .digits
-    P1 = some-digit (f .digits) P
+    P1 = two-le-pos (f .digits) P
 
     word : ℕ
-    word = places f num den * hid f + closest num (den * 2 ^ places f num den)
+    word = wordAt even f (places f num den) (kept f num den) (rest f num den)
 
     end : ℕ
     end = infinity f - 1
 
     is : rounded f num den ≡ min word (infinity f)
-    is = rounded-nearest f num den D (infinity-some f)
+    is = rounded-capped f num den
 
-    between : Between (scaled f den) num word
+    between : Between (scaled f den) (λ (m : ℕ). m) (2 * num) word
     between = word-between f num den P D
 
     step : (w : ℕ) → scaled f den w < scaled f den (suc w)
@@ -226,7 +150,7 @@ rounded-is-nearest f num den P E D = record {
     free w n p h = omega arith
 
     closest-is : rounded f num den < infinity f → Closest (scaled f den) num (infinity f) (rounded f num den)
-    closest-is h = between-closest (scaled f den) step num (infinity f) (rounded f num den) (subst (λ (z : ℕ). Between (scaled f den) num z) (sym (same (rounded f num den) word (infinity f) is h)) between)
+    closest-is h = between-closest (scaled f den) step num (infinity f) (rounded f num den) (subst (λ (z : ℕ). Between (scaled f den) (λ (m : ℕ). m) (2 * num) z) (sym (same (rounded f num den) word (infinity f) is h)) between)
       where
         same : (r w n : ℕ) → r ≡ min w n → r < n → r ≡ w
         same r w n e l = omega arith

@@ -30,7 +30,7 @@ rounded-same f a b c d B D e = let v = cut-same f a b c d B D e in sym (λ i. ro
 
 -- ---- half of what is kept is the whole part
 module _ (f : Format) (num den : ℕ) (P : 0 < f .digits) (D : 0 < den) where
-  pub half-kept : kept f num den / 2 ≡ num / (den * 2 ^ places f num den)
+  half-kept : kept f num den / 2 ≡ num / (den * 2 ^ places f num den)
   half-kept =
       let u = den * 2 ^ places f num den in
       div-div-eq-div-mul (2 * num) u 2 ∙ ap (λ (z : ℕ). 2 * num / z) (mul-comm u 2) ∙ mul-div-mul-left num u (omega arith)

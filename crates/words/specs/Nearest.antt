@@ -18,3 +18,14 @@ pub record Nearest (f : Format) (num den r : ℕ) : Type 0 where
   pub finite : 2 * num < overflowFrom f * den → r < infinity f
   pub none-nearer : r < infinity f → (w : ℕ) → w < infinity f → distance (units f r * den) num ≤ distance (units f w * den) num
   pub ties-even : r < infinity f → (w : ℕ) → w < infinity f → ¬ (w ≡ r) → distance (units f w * den) num ≡ distance (units f r * den) num → r % 2 ≡ 0
+
+abbrev pub square : ℕ → ℕ
+square n = n * n
+
+-- r is the finite word nearest to the square root of v, in units: the root is not below the middle between r and any smaller number, nor above that between r and any larger one, and at a middle only where r's last digit is 0.
+-- A middle is half of a sum, so it stands to the root as the sum's square to 4 * v.
+pub record NearestRoot (f : Format) (v r : ℕ) : Type 0 where
+  pub finite : r < infinity f
+  pub above : (w : ℕ) → w < infinity f → units f w < units f r → square (units f w + units f r) ≤ 4 * v
+  pub below : (w : ℕ) → w < infinity f → units f r < units f w → 4 * v ≤ square (units f r + units f w)
+  pub ties-even : (w : ℕ) → w < infinity f → ¬ (w ≡ r) → square (units f r + units f w) ≡ 4 * v → r % 2 ≡ 0
