@@ -155,6 +155,13 @@ rounded-is-nearest f num den P E D = record {
         same : (r w n : ℕ) → r ≡ min w n → r < n → r ≡ w
         same r w n e l = omega arith
 
+-- infinity only from there on
+pub infinite-only : (f : Format) (num den r : ℕ) → Nearest f num den r → r ≡ infinity f → overflowFrom f * den ≤ 2 * num
+infinite-only f num den r n e = elim (decLe (overflowFrom f * den) (2 * num)) [ yes l ↦ l | no l ↦ absurd (apart r (infinity f) (n .finite (lt-of-not-le l)) e) ]
+  where
+    apart : (a b : ℕ) → a < b → a ≡ b → ⊥
+    apart a b h g = omega arith
+
 pub nearest-unique : (f : Format) (num den r s : ℕ) → 0 < f .digits → 0 < den → Nearest f num den r → Nearest f num den s → r ≡ s
 nearest-unique f num den r s P D x y = elim (decLe (overflowFrom f * den) (2 * num)) [
   | yes l ↦ x .infinite l ∙ sym (y .infinite l)
