@@ -1,0 +1,5 @@
+pub mod Engine
+pub mod Roots
+pub mod Operands
+pub mod Signed
+pub mod Words
