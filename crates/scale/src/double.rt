@@ -58,9 +58,16 @@ pub fn scale64(x: f64, n: i32) -> f64
     b.y * last64(b.n)
 }
 
-// The word of x times 2^n.
+// The word of x times 2^n, as a plain word.
+pub fn scaled64(x: u64, n: i32) -> u64
+    ensures { λ r. ⌜ r ≡ scaled binary64 x n ⌝ }
+{
+    to_word64(scale64(of_word64(x), n))
+}
+
+// x times 2^n.
 pub fn scalbnd(x: u64, n: i32) -> Answer
     ensures { λ r. ⌜ r ≡ answered (scaled binary64 x n) ⌝ }
 {
-    answer_of(to_word64(scale64(of_word64(x), n)))
+    answer_of(scaled64(x, n))
 }

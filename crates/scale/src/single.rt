@@ -58,9 +58,16 @@ pub fn scale32(x: f32, n: i32) -> f32
     b.y * last32(b.n)
 }
 
-// The word of x times 2^n.
+// The word of x times 2^n, as a plain word.
+pub fn scaled32(x: u32, n: i32) -> u32
+    ensures { λ r. ⌜ r ≡ scaled binary32 x n ⌝ }
+{
+    to_word32(scale32(of_word32(x), n))
+}
+
+// x times 2^n.
 pub fn scalbnf(x: u32, n: i32) -> Answer
     ensures { λ r. ⌜ r ≡ answered (scaled binary32 x n) ⌝ }
 {
-    answer_of(to_word32(scale32(of_word32(x), n)) as u64)
+    answer_of(scaled32(x, n) as u64)
 }
