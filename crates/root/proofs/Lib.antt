@@ -3,3 +3,4 @@ pub mod Roots
 pub mod Operands
 pub mod Signed
 pub mod Words
+pub mod Sentences

@@ -9,7 +9,7 @@ use mathlib.Core.Logic.{_⊎_, inl, inr, ⊎-elim}
 use lib.Dec.{T, leb, leb→le, nleb→lt}
 use lib.Ieee.{size}
 use lib.Ieee.Digits.{size-lt, size-le}
-use lib.Pow.{pow-pos, pow-mono}
+use lib.Pow.{pow-pos, pow-mono, pow-add}
 use Rattle.root.specs.Root.{floorRoot, digitsAt, leftAt, significand}
 use Rattle.root.specs.Engine.{Asked, Rounds}
 use Rattle.root.proofs.Engine.{powers, four-pow}
@@ -79,6 +79,26 @@ module _ (p w k : ℕ) (a : Asked p w k) where
   pub digits-high : 4 ^ k * w < 2 ^ (p + 1) * ((digitsAt p w k + 1) * (digitsAt p w k + 1))
   unfolding digitsAt
   digits-high = omega (arith, div-lt-iff-lt-mul (pow-pos (p + 1)) .0 (floor-root k (4 ^ k * w / 2 ^ (p + 1)) inside .1))
+
+  -- the left-over is whole: nothing was cut off in the subtraction
+  pub left-whole : leftAt p w k + 2 ^ (p + 2 - k) * (digitsAt p w k * digitsAt p w k) ≡ 2 ^ (k + 1) * w
+  unfolding leftAt
+  left-whole = add-back (2 ^ (k + 1) * w) (2 ^ (p + 2 - k) * (q * q)) (le-of-mul-le-mul-left {k = 2 ^ k} scaled (pow-pos k))
+    where
+      q : ℕ
+      q = digitsAt p w k
+
+      add-back : (a b : ℕ) → b ≤ a → a - b + b ≡ a
+      add-back a b h = omega arith
+
+      sum : (p k : ℕ) → k ≤ p + 1 → k + (p + 2 - k) ≡ suc (p + 1)
+      sum p k h = omega arith
+
+      weight : 2 ^ k * 2 ^ (p + 2 - k) ≡ 2 * 2 ^ (p + 1)
+      weight = sym (pow-add 2 k (p + 2 - k)) ∙ (ap (λ (z : ℕ). 2 ^ z) (sum p k (a .rounds)) ∙ pow-succ' 2 (p + 1))
+
+      scaled : 2 ^ k * (2 ^ (p + 2 - k) * (q * q)) ≤ 2 ^ k * (2 ^ (k + 1) * w)
+      scaled = omega (arith, digits-low, ap (λ (z : ℕ). z * (q * q)) weight, ap (λ (z : ℕ). 2 ^ k * (z * w)) (powers k .0), ap (λ (z : ℕ). z * w) (four-pow k))
 
   -- Q has at most k digits, and exactly k from the first round on
   pub digits-below : digitsAt p w k < 2 ^ k

@@ -13,7 +13,7 @@ use Rattle.words.specs.Format.{ones, Format, format, hid, top, infinity, quiet,
 use Rattle.root.specs.Partial.{partialRoot, refused}
 use Rattle.words.specs.Refusal.{done, notPositive, tooManyRounds}
 use Rattle.words.proofs.Words.{infinity-some, infinity-below, quiet-below, below-fits}
-use Rattle.root.specs.Root.{leftAt, digitsAt, wholeOf, raised, rootAt, rootWord, halves, whole, exponentOf, significand}
+use Rattle.root.specs.Root.{leftAt, digitsAt, wholeOf, lifted, rootAt, rootWord, halves, whole, exponentOf, significand}
 use Rattle.root.specs.Engine.{oddZ, Split, Rounds, Asked, Shifts, Ready}
 use Rattle.words.specs.Rounding.{Held}
 use Rattle.root.proofs.Roots.{digits-unique, near}
@@ -26,14 +26,14 @@ pub record Fine (f : Format) : Type 0 where
 
 module _ (f : Format) (x : ℕ) where
   -- a field of 0
-  pub raised-low : x / hid f ≡ 0 → x % hid f * 2 ^ (f .emax - 1) ≡ raised f (units f x)
+  pub lifted-low : x / hid f ≡ 0 → x % hid f * 2 ^ (f .emax - 1) ≡ lifted f (units f x)
   unfolding units
-  raised-low e = ap (λ (z : ℕ). unitsAt (hid f) z (x % hid f) * 2 ^ (f .emax - 1)) (sym e)
+  lifted-low e = ap (λ (z : ℕ). unitsAt (hid f) z (x % hid f) * 2 ^ (f .emax - 1)) (sym e)
 
   -- any other
-  pub raised-high : (y : ℕ) → x / hid f ≡ suc y → (hid f + x % hid f) * 2 ^ (y + (f .emax - 1)) ≡ raised f (units f x)
+  pub lifted-high : (y : ℕ) → x / hid f ≡ suc y → (hid f + x % hid f) * 2 ^ (y + (f .emax - 1)) ≡ lifted f (units f x)
   unfolding units
-  raised-high y e =
+  lifted-high y e =
       ap (λ (z : ℕ). (hid f + x % hid f) * z) (pow-add 2 y (f .emax - 1))
       ∙ (sym (mul-assoc (hid f + x % hid f) (2 ^ y) (2 ^ (f .emax - 1)))
       ∙ ap (λ (z : ℕ). unitsAt (hid f) z (x % hid f) * 2 ^ (f .emax - 1)) (sym e))
@@ -50,32 +50,32 @@ module _ (f : Format) (x : ℕ) where
   -- ---- W and E from the fields, and the word's sign clear
 
   pub low-parts : Fine f → x / hid f ≡ 0 → 0 < x % hid f → (s : ℕ) (e : ℤ) → Shifts (f .digits) (x % hid f) s → e ≡ subℕ 1 (f .emax + s)
-      → (x % hid f * 2 ^ s * 2 ^ oddZ e ≡ whole (f .digits) (raised f (units f x))) × (shrZ e 2 ≡ exponentOf f (raised f (units f x)))
+      → (x % hid f * 2 ^ s * 2 ^ oddZ e ≡ whole (f .digits) (lifted f (units f x))) × (shrZ e 2 ≡ exponentOf f (lifted f (units f x)))
   low-parts g z some s e a is =
       let few : s < f .digits = shifts-few (f .digits) (x % hid f) s some a in
       let n : ℕ = f .emax - 1 - s in
       let c : ℕ = f .emax - 2 - s in
       let up : 1 + c ≡ n = omega (arith, few, g .room) in
       let down : f .emax + s + c ≡ 2 * (f .emax - 1) = omega (arith, few, g .room) in
-      parts-are (f .digits) (x % hid f * 2 ^ s) n (f .emax - 1) (raised f (units f x)) e (a .above) (a .below)
-      (shifted-value (x % hid f) s (f .emax - 1) (omega (arith, few, g .room)) ∙ raised-low z)
+      parts-are (f .digits) (x % hid f * 2 ^ s) n (f .emax - 1) (lifted f (units f x)) e (a .above) (a .below)
+      (shifted-value (x % hid f) s (f .emax - 1) (omega (arith, few, g .room)) ∙ lifted-low z)
       (is ∙ (sym (sub-shift 1 (f .emax + s) c) ∙ (ap (λ (k : ℕ). subℕ k (f .emax + s + c)) up ∙ ap (λ (k : ℕ). subℕ n k) down)))
 
   pub high-parts : Fine f → (y : ℕ) → x / hid f ≡ suc y → (e : ℤ) → e ≡ subℕ (suc y) (f .emax)
-      → ((hid f + x % hid f) * 2 ^ oddZ e ≡ whole (f .digits) (raised f (units f x))) × (shrZ e 2 ≡ exponentOf f (raised f (units f x)))
+      → ((hid f + x % hid f) * 2 ^ oddZ e ≡ whole (f .digits) (lifted f (units f x))) × (shrZ e 2 ≡ exponentOf f (lifted f (units f x)))
   high-parts g y z e is =
       let n : ℕ = y + (f .emax - 1) in
       let c : ℕ = f .emax - 2 in
       let up : suc y + c ≡ n = omega (arith, g .room, g .least) in
       let down : f .emax + c ≡ 2 * (f .emax - 1) = omega (arith, g .room, g .least) in
-      parts-are (f .digits) (hid f + x % hid f) n (f .emax - 1) (raised f (units f x)) e (omega (arith, full g)) (omega (arith, full g, fraction))
-      (raised-high y z)
+      parts-are (f .digits) (hid f + x % hid f) n (f .emax - 1) (lifted f (units f x)) e (omega (arith, full g)) (omega (arith, full g, fraction))
+      (lifted-high y z)
       (is ∙ (sym (sub-shift (suc y) (f .emax) c) ∙ (ap (λ (k : ℕ). subℕ k (f .emax + c)) up ∙ ap (λ (k : ℕ). subℕ n k) down)))
 
   -- x is W * 4 ^ (E + emax - 1) exactly, and W has p digits, or p + 1 and is even
   pub finite-split : Fine f → 0 < x → x < infinity f
-      → Split (f .digits) (raised f (units f x)) (whole (f .digits) (raised f (units f x))) (halves (f .digits) (raised f (units f x)))
-      × (2 * halves (f .digits) (raised f (units f x)) ≤ 3 * f .emax)
+      → Split (f .digits) (lifted f (units f x)) (whole (f .digits) (lifted f (units f x))) (halves (f .digits) (lifted f (units f x)))
+      × (2 * halves (f .digits) (lifted f (units f x)) ≤ 3 * f .emax)
   finite-split g some below = by (x / hid f) refl
     where
       Goal : ℕ → Type 0
@@ -84,14 +84,14 @@ module _ (f : Format) (x : ℕ) where
       field : x / hid f < 2 * f .emax + 1
       field = div-lt-iff-lt-mul (pow-pos (f .digits - 1)) .1 (omega (arith, below))
 
-      by : (y : ℕ) → x / hid f ≡ y → Goal (raised f (units f x))
+      by : (y : ℕ) → x / hid f ≡ y → Goal (lifted f (units f x))
       by zero z =
           let nz : 0 < x % hid f = omega (arith, div-add-mod' x (hid f), some, ap (λ (k : ℕ). k * hid f) z) in
           let r = operand-split (f .digits) (x % hid f) (f .emax - 1) nz (omega (arith, full g, fraction)) (omega (arith, g .room)) in
-          subst Goal (raised-low z) (r .0, omega (arith, r .1))
+          subst Goal (lifted-low z) (r .0, omega (arith, r .1))
       by (suc y) z =
           let r = operand-split (f .digits) (hid f + x % hid f) (y + (f .emax - 1)) (omega (arith, pow-pos (f .digits - 1))) (omega (arith, full g, fraction)) (omega (arith, g .room)) in
-          subst Goal (raised-high y z) (r .0, omega (arith, r .1, field, z))
+          subst Goal (lifted-high y z) (r .0, omega (arith, r .1, field, z))
 
   -- ---- the root of each kind of word
 
@@ -107,7 +107,7 @@ module _ (f : Format) (x : ℕ) where
   unfolding rootWord
   root-infinity z e = rw (ne-eqb (x % top f) 0 z, le-ltb (infinity f) x (omega arith), eq-eqb x (infinity f) e)
 
-  pub root-finite : ¬ (x % top f ≡ 0) → x < infinity f → rootWord f x ≡ rootAt f (raised f (units f x))
+  pub root-finite : ¬ (x % top f ≡ 0) → x < infinity f → rootWord f x ≡ rootAt f (lifted f (units f x))
   unfolding rootWord
   root-finite z h = rw (ne-eqb (x % top f) 0 z, le-ltb (infinity f) x (omega arith), ne-eqb x (infinity f) (λ (e : x ≡ infinity f). omega arith))
 
@@ -135,8 +135,8 @@ held-fine p e h = record { least = h .least; room = h .room }
 
 -- the parts of a positive finite word, ready for its root
 pub ready : (p e x w : ℕ) (half : ℤ) → Held p e → 0 < x → x < infinity (format p e)
-    → w ≡ whole p (raised (format p e) (units (format p e) x)) → half ≡ exponentOf (format p e) (raised (format p e) (units (format p e) x))
-    → Ready p (e - 1) w (halves p (raised (format p e) (units (format p e) x))) half
+    → w ≡ whole p (lifted (format p e) (units (format p e) x)) → half ≡ exponentOf (format p e) (lifted (format p e) (units (format p e) x))
+    → Ready p (e - 1) w (halves p (lifted (format p e) (units (format p e) x))) half
 ready p e x w half h some below is-w is-half =
     let s = finite-split (format p e) x (held-fine p e h) some below in
     record {
@@ -195,11 +195,11 @@ not-zero f x h l n e = elim (decLt x (top f)) [
     same x h n l e = omega (arith, l, e)
 
 -- the root of a positive finite word is one
-pub root-below : (f : Format) (x : ℕ) → Fine f → f .digits ≤ 60 → 0 < x → x < infinity f → rootAt f (raised f (units f x)) < infinity f
+pub root-below : (f : Format) (x : ℕ) → Fine f → f .digits ≤ 60 → 0 < x → x < infinity f → rootAt f (lifted f (units f x)) < infinity f
 unfolding rootAt
 root-below f x g small some below =
     let p : ℕ = f .digits in
-    let v : ℕ = raised f (units f x) in
+    let v : ℕ = lifted f (units f x) in
     let s = finite-split f x g some below in
     let n = near p (whole p v) (split-asked p v (whole p v) (halves p v) (p + 1) small (omega arith) (s .0)) (s .0 .below) in
     let h : halves p v + 2 ≤ 2 * f .emax + 1 = omega (arith, s .1, g .room, g .least) in

@@ -27,9 +27,9 @@ significand p w = let q = digitsAt p w (p + 1) in (q + q % 2) / 2
 
 -- ---- a positive finite operand x = M * 4 ^ E, of u units: E, and W = M * 2 ^ (p - 1)
 
--- W * 4 ^ (E + emax - 1): every exponent raised by emax - 1, so that none is negative
-abbrev pub raised : Format → ℕ → ℕ
-raised f u = u * 2 ^ (f .emax - 1)
+-- W * 4 ^ (E + emax - 1): every exponent lifted by emax - 1, so that none is negative
+abbrev pub lifted : Format → ℕ → ℕ
+lifted f u = u * 2 ^ (f .emax - 1)
 
 -- E + emax - 1: half, rounded down, of the digits of v past p
 unfoldable pub halves : ℕ → ℕ → ℕ
@@ -45,7 +45,7 @@ whole p v = v / 4 ^ halves p v
 
 -- the operand word's W
 abbrev pub wholeOf : Format → ℕ → ℕ
-wholeOf f x = whole (f .digits) (raised f (units f x))
+wholeOf f x = whole (f .digits) (lifted f (units f x))
 
 -- the word of S * 2 ^ (E - p + 1): the field is E + emax, of which S brings one
 unfoldable pub rootAt : Format → ℕ → ℕ
@@ -57,4 +57,4 @@ rootWord f x =
     cond (eqb (magnitude f x) 0) x
     (cond (ltb (infinity f) x) (quiet f)
     (cond (eqb x (infinity f)) x
-    (rootAt f (raised f (units f x)))))
+    (rootAt f (lifted f (units f x)))))

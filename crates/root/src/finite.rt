@@ -4,7 +4,7 @@ ghost use Prim.Native.Nat.{ℕ, _+_, _-_, _*_, _^_, _<_};
 ghost use lib.IntN.{subℕ};
 ghost use Rattle.words.specs.Format.{format, units, infinity, top};
 ghost use Rattle.words.specs.Rounding.{Held};
-ghost use Rattle.root.specs.Root.{raised, significand, rootAt, rootWord};
+ghost use Rattle.root.specs.Root.{lifted, significand, rootAt, rootWord};
 ghost use Rattle.root.specs.Engine.{Ready};
 use super::operand::Parts;
 use super::operand::parts_of;
@@ -35,7 +35,7 @@ fn root_bits(o: Parts, p: u32, b: u32) -> u64
 // The root of a positive finite word x of p digits.
 fn finite_root(x: u64, p: u32, emax: u32) -> u64
     requires { ⌜ Held p emax × (0 < x) × (x < infinity (format p emax)) ⌝ }
-    ensures { λ r. ⌜ r ≡ rootAt (format p emax) (raised (format p emax) (units (format p emax) x)) ⌝ }
+    ensures { λ r. ⌜ r ≡ rootAt (format p emax) (lifted (format p emax) (units (format p emax) x)) ⌝ }
 {
     root_bits(parts_of(x, p, emax), p, emax - 1)
 }

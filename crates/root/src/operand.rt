@@ -5,7 +5,7 @@ ghost use lib.IntN.{subℕ};
 ghost use lib.Signed.{shrZ};
 ghost use Rattle.words.specs.Format.{format, units, infinity};
 ghost use Rattle.words.specs.Rounding.{Held};
-ghost use Rattle.root.specs.Root.{raised, whole, exponentOf};
+ghost use Rattle.root.specs.Root.{lifted, whole, exponentOf};
 ghost use Rattle.root.specs.Engine.{Shifts, oddZ};
 
 // w * 2^(1-p) * 4^half
@@ -53,8 +53,8 @@ fn halve(m: u64, e: i32) -> Parts
 // W and E of a positive finite word x of p digits.
 pub fn parts_of(x: u64, p: u32, emax: u32) -> Parts
     requires { ⌜ Held p emax × (0 < x) × (x < infinity (format p emax)) ⌝ }
-    ensures { λ r. ⌜ r .w ≡ whole p (raised (format p emax) (units (format p emax) x)) ⌝ }
-    ensures { λ r. ⌜ r .half ≡ exponentOf (format p emax) (raised (format p emax) (units (format p emax) x)) ⌝ }
+    ensures { λ r. ⌜ r .w ≡ whole p (lifted (format p emax) (units (format p emax) x)) ⌝ }
+    ensures { λ r. ⌜ r .half ≡ exponentOf (format p emax) (lifted (format p emax) (units (format p emax) x)) ⌝ }
 {
     let hid: u64 = 1 << (p - 1);
     let field = (x >> (p - 1)) as u32;
