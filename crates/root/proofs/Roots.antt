@@ -170,9 +170,9 @@ module _ (p w : ℕ) (a : Asked p w (p + 1)) (even : w + 1 < 2 ^ (p + 1)) where
       big : 2 ^ p ≤ q
       big = subst (λ (k : ℕ). 2 ^ p ≤ digitsAt p w k) (sym (add-one p)) (digits-above p w p (subst (λ (k : ℕ). Asked p w k) (add-one p) a))
 
-      even-case : q % 2 ≡ 0 → Near p w ((q + q % 2) / 2)
+      even-case : q % 2 ≡ 0 → Near p w (significand p w)
       even-case ev =
-          let s : ℕ = (q + q % 2) / 2 in
+          let s : ℕ = significand p w in
           let h : q ≡ 2 * s = omega arith in
           let d : ℕ = 2 * s - 1 in
           let e : 2 * s ≡ d + 1 = omega (arith, big, pow-pos p) in
@@ -181,9 +181,9 @@ module _ (p w : ℕ) (a : Asked p w (p + 1)) (even : w + 1 < 2 ^ (p + 1)) where
           let hq : 2 ^ (p + 1) * w < 4 * (s * s) + 4 * s + 1 = omega (arith, r .1, qq, h) in
           record { low = omega (arith, big, powers p .0); high = omega (arith, not-all-ones, powers p .0); after = omega (arith, r .0, qq, dd); before = omega (arith, hq) }
 
-      odd-case : q % 2 ≡ 1 → Near p w ((q + q % 2) / 2)
+      odd-case : q % 2 ≡ 1 → Near p w (significand p w)
       odd-case od =
-          let s : ℕ = (q + q % 2) / 2 in
+          let s : ℕ = significand p w in
           let h : q + 1 ≡ 2 * s = omega arith in
           let d : ℕ = 2 * s - 1 in
           let e : d ≡ q = omega arith in

@@ -1,0 +1,2 @@
+// The customer's demands as theorems: this crate holds definitions (`specs/`) and theorems
+// (`proofs/`), and no code.

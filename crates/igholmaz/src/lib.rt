@@ -1,0 +1,66 @@
+// The C face: each public function under the prefix `igholmaz_`, with the promise of the function
+// that it calls. Words are IEEE 754 interchange bit patterns; nothing is asked of the caller.
+ghost use mathlib.Core.Path.{_≡_};
+ghost use Rattle.words.specs.Format.{binary32, binary64, magnitude};
+ghost use Rattle.words.specs.Answers.{answered};
+ghost use Rattle.root.specs.Root.{rootWord};
+ghost use Rattle.root.specs.Partial.{partialRoot};
+ghost use Rattle.scale.specs.Scale.{scaled};
+use root::partial::PartialRoot;
+use words::answer::Answer;
+
+#[no_mangle]
+pub extern "C" fn igholmaz_fabsf(x: u32) -> u32
+    ensures { λ r. ⌜ r ≡ magnitude binary32 x ⌝ }
+{
+    words::fabs::fabsf(x)
+}
+
+#[no_mangle]
+pub extern "C" fn igholmaz_fabsd(x: u64) -> u64
+    ensures { λ r. ⌜ r ≡ magnitude binary64 x ⌝ }
+{
+    words::fabs::fabsd(x)
+}
+
+#[no_mangle]
+pub extern "C" fn igholmaz_scalbnf(x: u32, n: i32) -> Answer
+    ensures { λ r. ⌜ r ≡ answered (scaled binary32 x n) ⌝ }
+{
+    scale::single::scalbnf(x, n)
+}
+
+#[no_mangle]
+pub extern "C" fn igholmaz_scalbnd(x: u64, n: i32) -> Answer
+    ensures { λ r. ⌜ r ≡ answered (scaled binary64 x n) ⌝ }
+{
+    scale::double::scalbnd(x, n)
+}
+
+#[no_mangle]
+pub extern "C" fn igholmaz_sqrtf(x: u32) -> Answer
+    ensures { λ r. ⌜ r ≡ answered (rootWord binary32 x) ⌝ }
+{
+    root::single::sqrtf(x)
+}
+
+#[no_mangle]
+pub extern "C" fn igholmaz_sqrtd(x: u64) -> Answer
+    ensures { λ r. ⌜ r ≡ answered (rootWord binary64 x) ⌝ }
+{
+    root::double::sqrtd(x)
+}
+
+#[no_mangle]
+pub extern "C" fn igholmaz_partial_sqrtf(x: u32, rounds: u32) -> PartialRoot
+    ensures { λ r. ⌜ r ≡ partialRoot binary32 x rounds ⌝ }
+{
+    root::single::partial_sqrtf(x, rounds)
+}
+
+#[no_mangle]
+pub extern "C" fn igholmaz_partial_sqrtd(x: u64, rounds: u32) -> PartialRoot
+    ensures { λ r. ⌜ r ≡ partialRoot binary64 x rounds ⌝ }
+{
+    root::double::partial_sqrtd(x, rounds)
+}
