@@ -4,14 +4,14 @@ use Prim.Native.Nat.{suc, _-_, _^_, _≤_}
 use mathlib.Core.Bool.{true, false}
 use lib.Dec.{T}
 use lib.IntN.{ℤ, pos, negsuc, _+ℤ_, _-ℤ_}
-use lib.Signed.{ltZ, _≤ℤ_}
+use lib.Signed.{ltZ}
 use lib.Ieee.{Float, Format, emax, ones, mul, fits}
 use mir.Syntax.{Width}
 use mir.Val.{SFits, hbits, toZ, ofZ}
 use mir.ValLaws.{toZ-ofZ}
 use Rattle.scale.specs.Scale.{power}
-use Rattle.scale.specs.Steps.{pastUp, pastDown, fall, stepFloat, stepLeft, between, clamped}
-use Rattle.scale.proofs.Ways.{scale-steps, up-fits, down-fits, left-fits, clamped-normal}
+use Rattle.scale.specs.Steps.{Normal, pastUp, pastDown, fall, stepFloat, stepLeft, between, clamped}
+use Rattle.scale.proofs.Ways.{scale-steps, up-fits, down-fits, left-fits, inside-normal}
 use Rattle.scale.proofs.Fields.{Field, field-of}
 
 -- what is read back of a number
@@ -67,21 +67,22 @@ module _ (w : Width) (l m n : ℤ) (L : SFits w l) (M : SFits w m) (N : SFits w 
       let d : ltZ n l ≡ false = (λ i. ltZ (sym (toZ-ofZ w n N) i) (sym (toZ-ofZ w l L) i)) ∙ h in
       toZ-ofZ w n N ∙ rw (u, d) refl
 
--- ---- the last factor: r is the clamped n, and the field emax + r is that of 2 ^ r
-module _ (f : Format) (w : Width) (n r : ℤ) (N : SFits w n) (R : SFits w r) (c : r ≡ clamped f (held w n)) where
-  pub last-is : held w r ≡ clamped f n
-  last-is = toZ-ofZ w r R ∙ c ∙ ap (clamped f) (toZ-ofZ w n N)
+-- ---- 2 ^ n for a normal exponent, as the machine holds it
+pub held-normal : (f : Format) (w : Width) (n : ℤ) → SFits w n → Normal f n → Normal f (held w n)
+held-normal f w n N h = subst (Normal f) (sym (toZ-ofZ w n N)) h
 
-  pub last-field : ones f ≤ 2 ^ hbits w → Field f w (held w r) (held w (pos (emax f) +ℤ held w r))
-  last-field O =
-      let normal : (negsuc (emax f - 2) ≤ℤ held w r) × (held w r ≤ℤ pos (emax f)) = subst (λ (z : ℤ). (negsuc (emax f - 2) ≤ℤ z) × (z ≤ℤ pos (emax f))) (sym last-is) (clamped-normal f n) in
-      field-of f w (held w r) O (normal .0) (normal .1)
+pub power-field : (f : Format) (w : Width) (n : ℤ) → ones f ≤ 2 ^ hbits w → SFits w n → Normal f n → Field f w (held w n) (held w (pos (emax f) +ℤ held w n))
+power-field f w n O N h = let g = held-normal f w n N h in field-of f w (held w n) O (g .0) (g .1)
 
--- ---- two steps and the last factor, each handed on as the machine holds it
-pub scale-held : (f : Format) (w : Width) (x y₁ y₂ p : Float) (n n₁ n₂ : ℤ) → T (fits f x) → SFits w n
+-- ---- an n past neither end is a normal exponent
+pub near-normal : (f : Format) (w : Width) (n : ℤ) → SFits w n → pastUp f (held w n) ≡ false → pastDown f (held w n) ≡ false → Normal f (held w n)
+near-normal f w n N u d = inside-normal f (held w n) (u, d)
+
+-- ---- two steps and the last factor, each handed on as the machine holds it: r is the clamped exponent
+pub scale-held : (f : Format) (w : Width) (x y₁ y₂ p : Float) (n n₁ n₂ r : ℤ) → T (fits f x) → SFits w n → SFits w r
     → (y₁ ≡ stepFloat f x (held w n)) × (n₁ ≡ stepLeft f (held w n)) → (y₂ ≡ stepFloat f y₁ (held w n₁)) × (n₂ ≡ stepLeft f (held w n₁))
-    → p ≡ power (clamped f (held w n₂)) → mul f y₂ p ≡ mul f x (power n)
-scale-held f w x y₁ y₂ p n n₁ n₂ X N a b l =
+    → r ≡ clamped f (held w n₂) → p ≡ power (held w r) → mul f y₂ p ≡ mul f x (power n)
+scale-held f w x y₁ y₂ p n n₁ n₂ r X N R a b l m =
     let e : held w n ≡ n = toZ-ofZ w n N in
     let c : n₁ ≡ stepLeft f n = a .1 ∙ ap (stepLeft f) e in
     let N₁ : SFits w (stepLeft f n) = left-fits f w n N in
@@ -89,4 +90,4 @@ scale-held f w x y₁ y₂ p n n₁ n₂ X N a b l =
     let d : n₂ ≡ stepLeft f (stepLeft f n) = b .1 ∙ ap (stepLeft f) c' in
     let d' : held w n₂ ≡ stepLeft f (stepLeft f n) = ap (held w) d ∙ toZ-ofZ w (stepLeft f (stepLeft f n)) (left-fits f w (stepLeft f n) N₁) in
     let y : y₂ ≡ stepFloat f (stepFloat f x n) (stepLeft f n) = b .0 ∙ (λ i. stepFloat f ((a .0 ∙ ap (stepFloat f x) e) i) (c' i)) in
-    (λ i. mul f (y i) ((l ∙ ap (λ (z : ℤ). power (clamped f z)) d') i)) ∙ scale-steps f x n X
+    (λ i. mul f (y i) ((m ∙ ap power (toZ-ofZ w r R ∙ l ∙ ap (clamped f) d')) i)) ∙ scale-steps f x n X

@@ -8,7 +8,7 @@ use lib.Dec.{T, leb, ltb, eqb, ltb→lt, nltb→le, lt→ltb, leb→le}
 use lib.Pow.{pow-add, pow-pos, pow-mono, pow-lt}
 use lib.Arith.{le-zero}
 use lib.IntN.{ℤ, pos, negsuc}
-use lib.Ieee.{Float, nan, inf, fin, Format, prec, emax, low, up, down, size, odd, units, round, mul, fits}
+use lib.Ieee.{Float, nan, inf, fin, Format, prec, emax, low, up, down, size, odd, units, round, mul, fits, isNan}
 use lib.Ieee.Digits.{size-le}
 use lib.Ieee.Fits.{two, reach, two-le-pos, round-is, down-pos, and-l, and-r}
 use lib.Ieee.Exact.{HasValue, units-val}
@@ -41,6 +41,26 @@ pub mul-inf : (f : Format) (s : Bool) (n : ℤ) → mul f (inf s) (power n) ≡ 
 unfolding mul
 mul-inf f true n = refl
 mul-inf f false n = refl
+
+-- ---- what is rounded is a number, and so is a number times a power of two
+odd-number : (d : ℕ) (s : Bool) (q k l : ℕ) → isNan (odd d s q k l) ≡ false
+unfolding odd isNan
+odd-number d s zero k l = refl
+odd-number d s (suc q) k l = refl
+
+units-number : (f : Format) (s : Bool) (q k : ℕ) → isNan (units f s q k) ≡ false
+unfolding units isNan
+units-number f s q k = go (ltb (q * 2 ^ k) (overflow f))
+  where
+    go : (b : Bool) → isNan (cond b (odd (suc (prec f)) s q k (low f)) (inf s)) ≡ false
+    go true = odd-number (suc (prec f)) s q k (low f)
+    go false = refl
+
+pub mul-number : (f : Format) (x : Float) (n : ℤ) → isNan x ≡ false → isNan (mul f x (power n)) ≡ false
+unfolding isNan
+mul-number f nan n h = absurd (subst T h tt)
+mul-number f (inf s) n h = ap isNan (mul-inf f s n)
+mul-number f (fin s m e) n h = ap isNan (mul-power f s m e n ∙ round-is f s (m * up e * up n) (down e * down n)) ∙ units-number f s _ _
 
 -- ---- half a unit or less rounds to zero
 units-zero : (f : Format) (s : Bool) (k : ℕ) → units f s 0 k ≡ fin s 0 (pos 0)

@@ -1,5 +1,5 @@
 -- `scaled` is the word of the kit's product with a power of two. Assumes nothing.
-use mathlib.Core.Path.{_≡_, sym, ap, _∙_}
+use mathlib.Core.Path.{_≡_, subst, refl, sym, ap, _∙_}
 use Prim.Native.Nat.{ℕ, _*_, _%_, _^_, _≤_, _<_}
 use native.Mathlib.Nat.{mul-assoc, mul-pos}
 use native.Mathlib.Omega.{arith}
@@ -8,17 +8,19 @@ use lib.Dec.{T, leb, ltb, eqb, ltb→lt, nltb→le, eqb→eq, T-not}
 use lib.Pow.{pow-pos}
 use lib.IntN.{ℤ}
 use lib.Ieee as Ieee
-use lib.Ieee.{Float, up, down, mul, ofBits, toBits}
+use borrow.Author.Tests.{lt-ltb}
+use lib.Ieee.Bits.{nanBits-is}
+use lib.Ieee.{isNan, nanBits, Float, up, down, mul, ofBits, toBits}
 use lib.Ieee.Fits.{eq→eqb, down-pos}
 use lib.Ieee.Exact.{HasValue}
-use Rattle.words.specs.Format.{top, infinity, quiet, signed, units, ours}
+use Rattle.words.specs.Format.{Format, top, infinity, quiet, signed, units, ours}
 use Rattle.words.specs.Rounding.{rounded}
 use Rattle.scale.specs.Scale.{scaled, power}
 use Rattle.words.proofs.Round.{toBits-round, toBits-inf}
 use Rattle.words.proofs.Rounded.{rounded-same}
-use Rattle.words.proofs.Floats.{word-nan, word-inf, word-val, toBits-nan}
+use Rattle.words.proofs.Floats.{word-number, word-nan, word-inf, word-val, toBits-nan}
 use Rattle.words.proofs.Words.{sign-and-size}
-use Rattle.scale.proofs.Powers.{mul-val, mul-nan, mul-inf}
+use Rattle.scale.proofs.Powers.{mul-number, mul-val, mul-nan, mul-inf}
 
 -- a finite value of a units
 finite : (f : Ieee.Format) (x : Float) (s : Bool) (a : ℕ) (n : ℤ) → HasValue x s a (2 ^ Ieee.low f) → toBits f (mul f x (power n)) ≡ signed (ours f) s (rounded (ours f) (a * up n) (down n))
@@ -53,3 +55,16 @@ scaled-is f w n h = go (ltb i m) (eqb m i) (ltb→lt i m) (nltb→le i m) (eqb�
         ∙ ap (signed (ours f) s) (sym (d tt))
         ∙ sign-and-size (top (ours f)) w h
     go false false a b d e = finite f (ofBits f w) s (units (ours f) m) n (word-val f w (lt-of-both m i (b tt) (e tt)))
+
+-- a NaN's word
+pub scaled-nan : (f : Format) (w : ℕ) (n : ℤ) → infinity f < w % top f → quiet f ≡ scaled f w n
+unfolding scaled
+scaled-nan f w n h = rw (lt-ltb (infinity f) (w % top f) h) refl
+
+-- any other word's float is a number, and so is its product
+pub scaled-number : (f : Ieee.Format) (w : ℕ) (n : ℤ) → w % top (ours f) ≤ infinity (ours f) → T (not (isNan (mul f (ofBits f w) (power n))))
+scaled-number f w n h = subst (λ (b : Bool). T (not b)) (sym (mul-number f (ofBits f w) n (sym (nanBits-is f w) ∙ none (nanBits f w) (word-number f w h)))) tt
+  where
+    none : (b : Bool) → T (not b) → b ≡ false
+    none false t = refl
+    none true t = absurd t

@@ -14,7 +14,7 @@ use lib.Ieee.Fits.{mul-fits}
 use mir.Syntax.{Width}
 use mir.Val.{SFits}
 use Rattle.scale.specs.Scale.{power}
-use Rattle.scale.specs.Steps.{pastUp, pastDown, fall, stepFloat, stepLeft, clamped}
+use Rattle.scale.specs.Steps.{Normal, pastUp, pastDown, fall, stepFloat, stepLeft, clamped}
 use Rattle.scale.proofs.Steps.{steps-up, steps-down}
 use Rattle.scale.proofs.Far.{clamp-up, clamp-down}
 
@@ -69,7 +69,7 @@ under b d (pos a) D t = absurd (yes false t)
 under b d (negsuc m) D t = let l = ltb→lt b m (yes (ltb b m) t) in (m, l, refl, add-neg m d (le-trans D (le-of-lt l)))
 
 -- ---- an n that is past neither end: nothing is to be done
-abbrev Inside : Format → ℤ → Type 0
+abbrev pub Inside : Format → ℤ → Type 0
 Inside f n = (pastUp f n ≡ false) × (pastDown f n ≡ false)
 
 pick : {A : Type 0} {u d : Bool} (a b c : A) → (u ≡ false) × (d ≡ false) → cond u a (cond d b c) ≡ c
@@ -246,15 +246,15 @@ module _ (f : Format) where
         ]
       ]
 
-  pub clamped-normal : (n : ℤ) → (negsuc (e - 2) ≤ℤ clamped f n) × (clamped f n ≤ℤ pos e)
+  pub inside-normal : (n : ℤ) → Inside f n → Normal f n
+  inside-normal n h = (ltZ-no (no (pastDown f n) (h .1)), ltZ-no (no (pastUp f n) (h .0)))
+
+  pub clamped-normal : (n : ℤ) → Normal f (clamped f n)
   clamped-normal n =
       elim (known (pastUp f n)) [
-        | inl u ↦ subst N (sym (up-side .clamped-past n u)) (leZ-yes tt, ≤ℤ-refl (pos e))
+        | inl u ↦ subst (Normal f) (sym (up-side .clamped-past n u)) (leZ-yes tt, ≤ℤ-refl (pos e))
         | inr u ↦ elim (known (pastDown f n)) [
-          | inl d ↦ subst N (sym (down-side .clamped-past n d)) (≤ℤ-refl (negsuc (e - 2)), leZ-yes tt)
-          | inr d ↦ subst N (sym (clamped-inside f n (u, d))) (ltZ-no (no (pastDown f n) d), ltZ-no (no (pastUp f n) u))
+          | inl d ↦ subst (Normal f) (sym (down-side .clamped-past n d)) (≤ℤ-refl (negsuc (e - 2)), leZ-yes tt)
+          | inr d ↦ subst (Normal f) (sym (clamped-inside f n (u, d))) (inside-normal n (u, d))
         ]
       ]
-    where
-      N : ℤ → Type 0
-      N z = (negsuc (e - 2) ≤ℤ z) × (z ≤ℤ pos e)

@@ -2,9 +2,13 @@
 use Prim.Native.Nat.{ℕ, suc, _-_}
 use mathlib.Core.Bool.{Bool, cond}
 use lib.IntN.{ℤ, pos, negsuc, _+ℤ_, _-ℤ_}
-use lib.Signed.{ltZ}
+use lib.Signed.{ltZ, _≤ℤ_}
 use lib.Ieee.{Float, Format, prec, emax, mul}
 use Rattle.scale.specs.Scale.{power}
+
+-- n is an exponent of a normal number
+abbrev pub Normal : Format → ℤ → Type 0
+Normal f n = (negsuc (emax f - 2) ≤ℤ n) × (n ≤ℤ pos (emax f))
 
 -- n is past the largest exponent of a normal number, 127 or 1023, and past the least, -126 or -1022
 abbrev pub pastUp : Format → ℤ → Bool

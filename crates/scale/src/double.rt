@@ -4,12 +4,10 @@ ghost use lib.Ieee as Ieee;
 ghost use Rattle.words.specs.Format.{binary64};
 ghost use Rattle.words.specs.Answers.{answered};
 ghost use Rattle.scale.specs.Scale.{scaled, power};
-ghost use Rattle.scale.specs.Steps.{stepFloat, stepLeft, clamped};
+ghost use Rattle.scale.specs.Steps.{Normal, stepFloat, stepLeft};
 use super::clamp::clamp;
 use words::answer::Answer;
 use words::answer::answer_of;
-use words::bridge::of_word64;
-use words::bridge::to_word64;
 
 // y times 2^n is what is left to do.
 pub struct Stepped64 {
@@ -41,28 +39,44 @@ fn step64(x: f64, n: i32) -> Stepped64
     Stepped64 { y: x, n }
 }
 
-// 2^n, the field of the exponent alone, for n clamped to the normal exponents.
-fn last64(n: i32) -> f64
-    ensures { λ r. ⌜ r ≡ power (clamped Ieee.binary64 n) ⌝ }
+// 2^n for a normal exponent n: the exponent's field alone.
+fn power64(n: i32) -> f64
+    requires { ⌜ Normal Ieee.binary64 n ⌝ }
+    ensures { λ r. ⌜ r ≡ power n ⌝ }
 {
-    let n = clamp(n, -1022, 1023);
     f64::from_bits(((0x3ff + n) as u64) << 52)
+}
+
+// x times 2^n for an n past the normal exponents: two long steps and a clamped last one.
+fn far64(x: f64, n: i32) -> f64
+    ensures { λ r. ⌜ r ≡ Ieee.mul Ieee.binary64 x (power n) ⌝ }
+{
+    let a = step64(x, n);
+    let b = step64(a.y, a.n);
+    b.y * power64(clamp(b.n, -1022, 1023))
 }
 
 // x times 2^n, rounded once.
 pub fn scale64(x: f64, n: i32) -> f64
     ensures { λ r. ⌜ r ≡ Ieee.mul Ieee.binary64 x (power n) ⌝ }
 {
-    let a = step64(x, n);
-    let b = step64(a.y, a.n);
-    b.y * last64(b.n)
+    if n > 1023 {
+        return far64(x, n);
+    }
+    if n < -1022 {
+        return far64(x, n);
+    }
+    x * power64(n)
 }
 
-// The word of x times 2^n, as a plain word.
+// The word of x times 2^n, as a plain word. Only a NaN's word gives the NaN.
 pub fn scaled64(x: u64, n: i32) -> u64
     ensures { λ r. ⌜ r ≡ scaled binary64 x n ⌝ }
 {
-    to_word64(scale64(of_word64(x), n))
+    if (x & 0x7fffffffffffffff) > 0x7ff0000000000000 {
+        return 0x7ff8000000000000;
+    }
+    f64::to_bits(scale64(f64::from_bits(x), n))
 }
 
 // x times 2^n.

@@ -4,12 +4,10 @@ ghost use lib.Ieee as Ieee;
 ghost use Rattle.words.specs.Format.{binary32};
 ghost use Rattle.words.specs.Answers.{answered};
 ghost use Rattle.scale.specs.Scale.{scaled, power};
-ghost use Rattle.scale.specs.Steps.{stepFloat, stepLeft, clamped};
+ghost use Rattle.scale.specs.Steps.{Normal, stepFloat, stepLeft};
 use super::clamp::clamp;
 use words::answer::Answer;
 use words::answer::answer_of;
-use words::bridge::of_word32;
-use words::bridge::to_word32;
 
 // y times 2^n is what is left to do.
 pub struct Stepped32 {
@@ -41,28 +39,44 @@ fn step32(x: f32, n: i32) -> Stepped32
     Stepped32 { y: x, n }
 }
 
-// 2^n, the field of the exponent alone, for n clamped to the normal exponents.
-fn last32(n: i32) -> f32
-    ensures { λ r. ⌜ r ≡ power (clamped Ieee.binary32 n) ⌝ }
+// 2^n for a normal exponent n: the exponent's field alone.
+fn power32(n: i32) -> f32
+    requires { ⌜ Normal Ieee.binary32 n ⌝ }
+    ensures { λ r. ⌜ r ≡ power n ⌝ }
 {
-    let n = clamp(n, -126, 127);
     f32::from_bits(((0x7f + n) as u32) << 23)
+}
+
+// x times 2^n for an n past the normal exponents: two long steps and a clamped last one.
+fn far32(x: f32, n: i32) -> f32
+    ensures { λ r. ⌜ r ≡ Ieee.mul Ieee.binary32 x (power n) ⌝ }
+{
+    let a = step32(x, n);
+    let b = step32(a.y, a.n);
+    b.y * power32(clamp(b.n, -126, 127))
 }
 
 // x times 2^n, rounded once.
 pub fn scale32(x: f32, n: i32) -> f32
     ensures { λ r. ⌜ r ≡ Ieee.mul Ieee.binary32 x (power n) ⌝ }
 {
-    let a = step32(x, n);
-    let b = step32(a.y, a.n);
-    b.y * last32(b.n)
+    if n > 127 {
+        return far32(x, n);
+    }
+    if n < -126 {
+        return far32(x, n);
+    }
+    x * power32(n)
 }
 
-// The word of x times 2^n, as a plain word.
+// The word of x times 2^n, as a plain word. Only a NaN's word gives the NaN.
 pub fn scaled32(x: u32, n: i32) -> u32
     ensures { λ r. ⌜ r ≡ scaled binary32 x n ⌝ }
 {
-    to_word32(scale32(of_word32(x), n))
+    if (x & 0x7fffffff) > 0x7f800000 {
+        return 0x7fc00000;
+    }
+    f32::to_bits(scale32(f32::from_bits(x), n))
 }
 
 // x times 2^n.

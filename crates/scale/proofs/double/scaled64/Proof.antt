@@ -1,20 +1,33 @@
--- `scale::double::scaled64` meets its contract: the kit's product with 2 ^ n, as a word. Assumes nothing.
+-- `scale::double::scaled64` meets its contract: a NaN's word apart, the word of the kit's product with 2 ^ n. Assumes nothing.
 use borrow.Author.Needs.{needs}
-use mathlib.Core.Path.{ap, _∙_}
-use lib.Ieee.{binary64, mul, toBits}
+use mathlib.Core.Path.{sym, ap, _∙_, subst}
+use Prim.Native.Nat.{ℕ, _%_, _^_, _≤_, _<_}
+use mathlib.Core.Bool.{not}
+use lib.Dec.{T}
+use lib.Bits.{and-mask}
+use lib.IntN.{ℤ}
+use lib.Ieee.{Float, binary64, mul, ofBits, toBits, isNan}
 use mir.Syntax.{w32}
 use mir.ValLaws.{toZ-ofZ}
+use Rattle.words.specs.Format as Format
+use Rattle.words.proofs.Floats.{word-number}
 use Rattle.scale.specs.Scale.{power}
-use Rattle.scale.proofs.Scaled.{scaled-is}
+use Rattle.scale.proofs.Scaled.{scaled-is, scaled-nan, scaled-number}
 use Rattle.scale.proofs.double.scaled64.Statement.{statement}
 use Rattle.scale.proofs.double.scaled64.Tie as tie
 
-returns : tie.Need-returns
-returns c =
-    let s = c .before .before .before in
-    c .to-word64 .ensures
-    ∙ ap (toBits binary64) (c .before .scale64 .ensures ∙ (λ i. mul binary64 (c .before .before .of-word64 .ensures i) (power (toZ-ofZ w32 (s .args .n) (s .fits .n) i))))
-    ∙ scaled-is binary64 (s .args .x) (s .args .n) (s .fits .x .fits)
+-- past the test the word is no NaN's
+number : (c : tie.Else1) → c .before .args .x % 2 ^ 63 ≤ 0x7ff0_0000_0000_0000
+number c = subst (λ (z : ℕ). z ≤ 0x7ff0_0000_0000_0000) (and-mask (c .before .args .x) 63) (c .if1 .left)
 
 pub scaled64-spec : {M : Type 1} → statement M
-scaled64-spec = tie.close (tie.spec (λ c κs. search needs) (λ c κs. search needs) (λ c κs. search needs) returns)
+scaled64-spec =
+    tie.close
+    (tie.spec
+    (λ c. scaled-nan Format.binary64 (c .before .args .x) (c .before .args .n) (subst (λ (z : ℕ). 0x7ff0_0000_0000_0000 < z) (and-mask (c .before .args .x) 63) (c .if1 .taken)))
+    (λ c. word-number binary64 (c .before .args .x) (number c))
+    (λ c κs. search needs)
+    (λ c. subst (λ (v : Float). T (not (isNan v))) (sym (c .scale64 .ensures)) (scaled-number binary64 (c .before .before .args .x) _ (number (c .before))))
+    (λ c. let s = c .before .before in
+    ap (toBits binary64) (c .scale64 .ensures ∙ ap (λ (n : ℤ). mul binary64 (ofBits binary64 (s .args .x)) (power n)) (toZ-ofZ w32 (s .args .n) (s .fits .n)))
+    ∙ scaled-is binary64 (s .args .x) (s .args .n) (s .fits .x .fits)))

@@ -1,21 +1,26 @@
--- `scale::single::scale32` meets its contract: two steps and the last factor are one rounding. Assumes nothing.
+-- `scale::single::scale32` meets its contract: between the ends one multiplication does, and past them the far way. Assumes nothing.
 use borrow.Author.Needs.{needs}
-use mathlib.Core.Path.{sym, subst}
-use lib.Dec.{T}
-use lib.Ieee.{binary32}
+use mathlib.Core.Path.{_≡_, ap, _∙_}
+use lib.IntN.{ℤ}
+use lib.Ieee.{Float, binary32, mul}
 use mir.Syntax.{w32}
-use Rattle.scale.proofs.Machine.{scale-held}
+use mir.ValLaws.{toZ-ofZ}
+use Rattle.scale.specs.Scale.{power}
+use Rattle.scale.proofs.Machine.{held, near-normal}
 use Rattle.scale.proofs.single.scale32.Statement.{statement}
 use Rattle.scale.proofs.single.scale32.Tie as tie
 
-returns : tie.Need-returns
-returns c =
-    let last = c .before in
-    let second = c .before .before .before in
-    let first = second .before .before in
-    let s = first .before in
-    scale-held binary32 w32 (s .args .x) (first .step32 .result .y) (second .step322 .result .y) (last .last32 .result) (s .args .n) (first .step32 .result .n) (second .step322 .result .n)
-    (subst T (sym (s .good .0 .1)) tt) (s .fits .n) (first .step32 .ensures) (second .step322 .ensures) (last .last32 .ensures)
+-- n is handed on as the machine holds it
+back : (s : tie.Start) → mul binary32 (s .args .x) (power (held w32 (s .args .n))) ≡ mul binary32 (s .args .x) (power (s .args .n))
+back s = ap (λ (n : ℤ). mul binary32 (s .args .x) (power n)) (toZ-ofZ w32 (s .args .n) (s .fits .n))
 
 pub scale32-spec : {M : Type 1} → statement M
-scale32-spec = tie.close (tie.spec (λ c κs. search needs) (λ c κs. search needs) (λ c κs. search needs) returns)
+scale32-spec =
+    tie.close
+    (tie.spec
+    (λ c κs. search needs)
+    (λ c. c .far32 .ensures ∙ back (c .before .before))
+    (λ c κs. search needs)
+    (λ c. c .far322 .ensures ∙ back (c .before .before .before))
+    (λ c κs. let s = c .before .before in near-normal binary32 w32 (s .args .n) (s .fits .n) (c .before .if1 .left) (c .if2 .left))
+    (λ c. let s = c .before .before .before in ap (λ (p : Float). mul binary32 (s .args .x) p) (c .power32 .ensures) ∙ back s))
