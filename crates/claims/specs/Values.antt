@@ -3,7 +3,7 @@ use Prim.Native.Nat.{ℕ}
 use mathlib.Core.Bool.{Bool, true, _&&_}
 use mathlib.Core.List.{List, [], _∷_}
 use lib.Dec.{eqb}
-use lib.IntN.{ℤ, pos, negsuc}
+use lib.IntN.{ℤ, negsuc}
 use Rattle.words.specs.Format.{Format, binary32, binary64}
 use Rattle.root.specs.Root.{rootWord}
 use Rattle.root.specs.Partial.{partialRoot}

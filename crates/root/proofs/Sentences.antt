@@ -2,25 +2,24 @@
 -- Everything is put together from `Roots` (once over p) and `Words` (the operand's W and E). Assumes nothing.
 use Prim.Native.Nat.{ℕ, zero, suc, _+_, _-_, _*_, _/_, _%_, _^_, _≤_, _<_, min}
 use mathlib.Core.Path.{_≡_, sym, ap, subst, _∙_}
-use mathlib.Core.Bool.{Bool, true}
-use native.Mathlib.Nat.{mul-one, mod-eq-of-lt, lt-trans, lt-of-not-le, not-le-of-lt, lt-of-lt-of-le, mul-le-mul, mul-le-mul-left, mul-le-mul-right, mul-lt-mul-of-pos-right, pow-succ'}
+use native.Mathlib.Nat.{mod-eq-of-lt, lt-trans, not-le-of-lt, mul-le-mul, mul-le-mul-left, mul-le-mul-right, mul-lt-mul-of-pos-right}
 use native.Mathlib.Omega.{arith}
 use native.Mathlib.Numerals.{add-one}
 use lib.Dec.{ltb}
 use lib.Ieee.{size}
-use lib.Pow.{pow-add, pow-pos}
+use lib.Pow.{pow-add}
 use borrow.Author.Tests.{lt-ltb}
-use Rattle.words.specs.Format.{Format, low, hid, top, infinity, units}
+use Rattle.words.specs.Format.{Format, low, hid, infinity, units}
 use Rattle.words.specs.Rounding.{even, odd, bit, wordAt, roundedAt}
 use Rattle.words.specs.Nearest.{square, NearestRoot}
 use Rattle.words.proofs.Even.{raised}
 use Rattle.words.proofs.Words.{infinity-below}
 use Rattle.words.proofs.Units.{units-word}
 use Rattle.words.proofs.NearestRoot.{root-is-nearest}
-use Rattle.root.specs.Root.{digitsAt, leftAt, significand, lifted, halves, whole, wholeOf, rootAt, rootWord}
+use Rattle.root.specs.Root.{digitsAt, leftAt, significand, lifted, halves, wholeOf, rootAt, rootWord}
 use Rattle.root.specs.Engine.{Asked, Split}
 use Rattle.root.proofs.Engine.{powers, four-pow}
-use Rattle.root.proofs.Roots.{Near, near, IsRoot, last-root, square-lt, digits-low, digits-high, digits-size, digits-above, digits-below, left-whole, exact, exact-only}
+use Rattle.root.proofs.Roots.{Near, near, IsRoot, last-root, digits-low, digits-high, digits-size, digits-above, digits-below, left-whole, exact, exact-only}
 use Rattle.root.proofs.Operands.{four-pos}
 use Rattle.root.proofs.Words.{Fine, finite-split, split-asked, full, root-finite, root-below}
 
@@ -103,6 +102,9 @@ module _ (f : Format) (x : ℕ) (g : Fine f) (small : f .digits ≤ 60) (some : 
   unfolding rootAt
   root-is = root-finite f x (λ e. omega (arith, mod-eq-of-lt (lt-trans below (infinity-below f)), e, some)) below
 
+  pub root-digits : (2 ^ (p - 1) ≤ significand p W) × (significand p W < 2 ^ p)
+  root-digits = (omega (arith, root-near .low, full f x g), root-near .high)
+
   least : hid f ≤ significand p W
   least = omega (arith, root-near .low, full f x g)
 
@@ -115,6 +117,57 @@ module _ (f : Format) (x : ℕ) (g : Fine f) (small : f .digits ≤ 60) (some : 
     subst (λ (z : ℕ). hid f ≤ z) (sym root-is) (omega (arith, least)),
     subst (λ (z : ℕ). z < infinity f) (sym (root-finite f x (λ e. omega (arith, mod-eq-of-lt (lt-trans below (infinity-below f)), e, some)) below)) (root-below f x g small some below),
   )
+
+  -- what stands under the root, times 4 ^ H, is four times the operand
+  scaled : 2 ^ (p + 1) * W * 4 ^ H ≡ 4 * (units f x * 2 ^ low f)
+  scaled =
+      move (2 ^ (p + 1)) W (4 ^ H) (units f x) (2 ^ (f .emax - 1)) (split .value)
+      ∙ ap (λ (z : ℕ). units f x * z) (sym (pow-add 2 (p + 1) (f .emax - 1)) ∙ ap (λ (z : ℕ). 2 ^ z) (sum (f .emax) p (g .least) (g .room)) ∙ pow-add 2 2 (low f))
+      ∙ last-move (units f x) (2 ^ low f)
+    where
+      move : (a w h u e : ℕ) → w * h ≡ u * e → a * w * h ≡ u * (a * e)
+      move a w h u e i = omega (arith, ap (λ (z : ℕ). a * z) i)
+
+      sum : (e p : ℕ) → 1 ≤ p → p + 1 ≤ e → p + 1 + (e - 1) ≡ 2 + (e + p - 2)
+      sum e p a b = omega arith
+
+      last-move : (u l : ℕ) → u * (4 * l) ≡ 4 * (u * l)
+      last-move u l = omega arith
+
+  squared : (n : ℕ) → square (n * 2 ^ H) ≡ n * n * 4 ^ H
+  squared n = swap n (2 ^ H) ∙ ap (λ (z : ℕ). n * n * z) (sym (four-pow H))
+    where
+      swap : (n h : ℕ) → n * h * (n * h) ≡ n * n * (h * h)
+      swap n h = omega arith
+
+  -- the two inequalities of `root-near` in units: a unit is 2 ^ -low, so the root of u units is that of u * 2 ^ low, in units
+  pub root-square-low : square (2 * units f (rootWord f x) - 2 ^ H) < 4 * (units f x * 2 ^ low f)
+  root-square-low =
+      subst (λ (z : ℕ). square (2 * z - 2 ^ H) < 4 * (units f x * 2 ^ low f)) (sym root-units)
+      (subst (λ (z : ℕ). square z < 4 * (units f x * 2 ^ low f)) (sym (factor (significand p W) (2 ^ H)))
+      (less (squared (2 * significand p W - 1)) scaled (mul-lt-mul-of-pos-right (root-near .after) (four-pos H))))
+    where
+      factor : (s h : ℕ) → 2 * (s * h) - h ≡ (2 * s - 1) * h
+      factor zero h = omega arith
+      factor (suc s) h = named (suc s) h (2 * suc s - 1) (omega arith)
+        where
+          named : (s h d : ℕ) → 2 * s ≡ d + 1 → 2 * (s * h) - h ≡ d * h
+          named s h d e = omega (arith, ap (λ (z : ℕ). z * h) e)
+
+      less : {a b c d : ℕ} → a ≡ b → c ≡ d → b < c → a < d
+      less e i l = omega arith
+
+  pub root-square-high : 4 * (units f x * 2 ^ low f) < square (2 * units f (rootWord f x) + 2 ^ H)
+  root-square-high =
+      subst (λ (z : ℕ). 4 * (units f x * 2 ^ low f) < square (2 * z + 2 ^ H)) (sym root-units)
+      (subst (λ (z : ℕ). 4 * (units f x * 2 ^ low f) < square z) (sym (factor (significand p W) (2 ^ H)))
+      (more (squared (2 * significand p W + 1)) scaled (mul-lt-mul-of-pos-right (root-near .before) (four-pos H))))
+    where
+      factor : (s h : ℕ) → 2 * (s * h) + h ≡ (2 * s + 1) * h
+      factor s h = omega arith
+
+      more : {a b c d : ℕ} → a ≡ b → c ≡ d → c < b → d < a
+      more e i l = omega arith
 
   -- ---- the same single rounding as `rounded`: the digits after all rounds are a cut, and `roundedAt` with the rule `even` makes the word of it
   pub root-once : rootWord f x ≡ roundedAt even f H (digitsAt p W (p + 1)) (ltb 0 (leftAt p W (p + 1)))
@@ -154,28 +207,6 @@ module _ (f : Format) (x : ℕ) (g : Fine f) (small : f .digits ≤ 60) (some : 
 
       kept-high : hid f ≤ q / 2
       kept-high = omega (arith, full f x g, subst (λ (k : ℕ). 2 ^ p ≤ digitsAt p W k) (sym (add-one p)) (digits-above p W p (subst (λ (k : ℕ). Asked p W k) (add-one p) last)))
-
-      -- what stands under the root, times 4 ^ H, is four times the operand
-      scaled : 2 ^ (p + 1) * W * 4 ^ H ≡ 4 * (units f x * 2 ^ low f)
-      scaled =
-          move (2 ^ (p + 1)) W (4 ^ H) (units f x) (2 ^ (f .emax - 1)) (split .value)
-          ∙ ap (λ (z : ℕ). units f x * z) (sym (pow-add 2 (p + 1) (f .emax - 1)) ∙ ap (λ (z : ℕ). 2 ^ z) (sum (f .emax) p (g .least) (g .room)) ∙ pow-add 2 2 (low f))
-          ∙ last-move (units f x) (2 ^ low f)
-        where
-          move : (a w h u e : ℕ) → w * h ≡ u * e → a * w * h ≡ u * (a * e)
-          move a w h u e i = omega (arith, ap (λ (z : ℕ). a * z) i)
-
-          sum : (e p : ℕ) → 1 ≤ p → p + 1 ≤ e → p + 1 + (e - 1) ≡ 2 + (e + p - 2)
-          sum e p a b = omega arith
-
-          last-move : (u l : ℕ) → u * (4 * l) ≡ 4 * (u * l)
-          last-move u l = omega arith
-
-      squared : (n : ℕ) → square (n * 2 ^ H) ≡ n * n * 4 ^ H
-      squared n = swap n (2 ^ H) ∙ ap (λ (z : ℕ). n * n * z) (sym (four-pow H))
-        where
-          swap : (n h : ℕ) → n * h * (n * h) ≡ n * n * (h * h)
-          swap n h = omega arith
 
       at-most : square (q * 2 ^ H) ≤ 2 ^ (p + 1) * W * 4 ^ H
       at-most = subst (λ (z : ℕ). z ≤ 2 ^ (p + 1) * W * 4 ^ H) (sym (squared q)) (mul-le-mul-right (4 ^ H) (r .0))

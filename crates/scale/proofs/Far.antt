@@ -1,13 +1,13 @@
 -- Far up every number but zero is an infinity, and far down every number is zero: so the exponent may be clamped. Over the kit's formats. Assumes nothing.
 use mathlib.Core.Path.{_≡_, sym, ap, _∙_}
 use mathlib.Core.Logic.{_⊎_, inl, inr}
-use Prim.Native.Nat.{ℕ, zero, suc, _+_, _-_, _*_, _^_, _≤_, _<_, zero-le}
+use Prim.Native.Nat.{ℕ, suc, _+_, _*_, _^_, _≤_, _<_, zero-le}
 use native.Mathlib.Nat.{le-trans, le-of-eq, le-of-lt, eq-zero-or-pos, mul-one, one-mul, zero-mul, mul-comm, mul-assoc, mul-pos, mul-le-mul-right, mul-le-mul-left, pow-suc}
 use mathlib.Core.Bool.{Bool}
 use lib.Dec.{T}
 use lib.Pow.{pow-pos, pow-mono}
 use lib.IntN.{pos, negsuc}
-use lib.Ieee.{Float, nan, inf, fin, Format, emax, low, up, down, round, mul, fits}
+use lib.Ieee.{Float, nan, inf, fin, Format, emax, low, round, mul, fits}
 use lib.Ieee.Exact.{HasValue}
 use lib.Ieee.Scale.{overflow}
 use Rattle.scale.specs.Scale.{power}

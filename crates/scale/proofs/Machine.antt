@@ -1,6 +1,6 @@
 -- The steps as the machine takes them: a signed number is held as bits and read back, and each test and sum is one on what was read back. Assumes nothing.
 use mathlib.Core.Path.{_≡_, refl, sym, ap, _∙_, subst}
-use Prim.Native.Nat.{suc, _-_, _^_, _≤_}
+use Prim.Native.Nat.{suc, _^_, _≤_}
 use mathlib.Core.Bool.{true, false}
 use lib.Dec.{T}
 use lib.IntN.{ℤ, pos, negsuc, _+ℤ_, _-ℤ_}

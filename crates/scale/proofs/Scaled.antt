@@ -8,7 +8,7 @@ use lib.Dec.{T, leb, ltb, eqb, ltb→lt, nltb→le, eqb→eq, T-not}
 use lib.Pow.{pow-pos}
 use lib.IntN.{ℤ}
 use lib.Ieee as Ieee
-use borrow.Author.Tests.{lt-ltb}
+use borrow.Author.Tests.{lt-ltb, le-ltb, eq-eqb, ne-eqb}
 use lib.Ieee.Bits.{nanBits-is}
 use lib.Ieee.{isNan, nanBits, Float, up, down, mul, ofBits, toBits}
 use lib.Ieee.Fits.{eq→eqb, down-pos}
@@ -17,9 +17,9 @@ use Rattle.words.specs.Format.{Format, top, infinity, quiet, signed, units, our
 use Rattle.words.specs.Rounding.{rounded}
 use Rattle.scale.specs.Scale.{scaled, power}
 use Rattle.words.proofs.Round.{toBits-round, toBits-inf}
-use Rattle.words.proofs.Rounded.{rounded-same}
+use Rattle.words.proofs.Rounded.{rounded-same, rounded-nothing}
 use Rattle.words.proofs.Floats.{word-number, word-nan, word-inf, word-val, toBits-nan}
-use Rattle.words.proofs.Words.{sign-and-size}
+use Rattle.words.proofs.Words.{sign-and-size, infinity-some}
 use Rattle.scale.proofs.Powers.{mul-number, mul-val, mul-nan, mul-inf}
 
 -- a finite value of a units
@@ -68,3 +68,27 @@ scaled-number f w n h = subst (λ (b : Bool). T (not b)) (sym (mul-number f (ofB
     none : (b : Bool) → T (not b) → b ≡ false
     none false t = refl
     none true t = absurd t
+
+-- the other kinds of words, from the definition
+pub scaled-infinity : (f : Format) (w : ℕ) (n : ℤ) → w % top f ≡ infinity f → scaled f w n ≡ w
+unfolding scaled
+scaled-infinity f w n e = rw (le-ltb (infinity f) (w % top f) (at-most (w % top f) (infinity f) e), eq-eqb (w % top f) (infinity f) e)
+  where
+    at-most : (a b : ℕ) → a ≡ b → a ≤ b
+    at-most a b e = omega arith
+
+pub scaled-finite : (f : Format) (w : ℕ) (n : ℤ) → w % top f < infinity f → scaled f w n ≡ signed f (leb (top f) w) (rounded f (units f (w % top f) * up n) (down n))
+unfolding scaled
+scaled-finite f w n h = rw (le-ltb (infinity f) (w % top f) (at-most (w % top f) (infinity f) h), ne-eqb (w % top f) (infinity f) (λ (e : w % top f ≡ infinity f). apart (w % top f) (infinity f) h e))
+  where
+    at-most : (a b : ℕ) → a < b → a ≤ b
+    at-most a b e = omega arith
+
+    apart : (a b : ℕ) → a < b → a ≡ b → ⊥
+    apart a b h e = omega arith
+
+pub scaled-zero : (f : Format) (w : ℕ) (n : ℤ) → 0 < f .digits → w < 2 * top f → w % top f ≡ 0 → scaled f w n ≡ w
+scaled-zero f w n P W e =
+    scaled-finite f w n (subst (λ (z : ℕ). z < infinity f) (sym e) (infinity-some f))
+    ∙ ap (signed f (leb (top f) w)) (ap (λ (z : ℕ). rounded f (units f z * up n) (down n)) e ∙ rounded-nothing f (up n) (down n) P (down-pos n) ∙ sym e)
+    ∙ sign-and-size (top f) w W

@@ -4,7 +4,7 @@ use Prim.Native.Nat.{ℕ, zero, suc, _+_, _-_, _*_, _/_, _%_, _^_, _≤_, _<_}
 use native.Mathlib.Nat.{le-trans, le-of-eq, lt-of-le-of-lt, eq-zero-or-pos, mul-one, mul-pos, mul-le-mul-right, mul-div-cancel, mul-mod-left, div-one, div-add-mod', div-lt-iff-lt-mul, div-div-eq-div-mul, div-le-self}
 use native.Mathlib.Omega.{arith}
 use mathlib.Core.Logic.{_⊎_, inl, inr}
-use mathlib.Core.Bool.{Bool, false, not}
+use mathlib.Core.Bool.{Bool, false}
 use lib.Dec.{ltb}
 use borrow.Author.Tests.{lt-ltb}
 use lib.Pow.{pow-add, pow-pos, shl-lt}

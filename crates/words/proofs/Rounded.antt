@@ -1,17 +1,17 @@
 -- What is kept of num / den units, and what it rounds to: equal fractions alike, never past infinity. Over any format. Assumes nothing.
 use mathlib.Core.Path.{_≡_, sym, ap, _∙_, subst}
-use Prim.Native.Nat.{ℕ, _+_, _-_, _*_, _/_, _^_, _≤_, _<_}
-use native.Mathlib.Nat.{le-trans, le-of-eq, mul-comm, mul-div-mul-left, div-div-eq-div-mul, le-div-iff-mul-le}
+use Prim.Native.Nat.{ℕ, _+_, _-_, _*_, _/_, _^_, _≤_, _<_, min}
+use native.Mathlib.Nat.{zero-div, zero-mod, le-trans, le-of-eq, mul-comm, mul-div-mul-left, div-div-eq-div-mul, le-div-iff-mul-le}
 use native.Mathlib.Omega.{arith}
 use mathlib.Core.Bool.{Bool, true, false}
 use lib.Pow.{pow-add, pow-pos}
 use lib.Ieee.{size}
 use lib.Ieee.Digits.{size-reaches}
 use lib.Ieee.Fits.{kept-lt}
-use Rattle.words.specs.Format.{Format, hid, infinity}
-use Rattle.words.specs.Rounding.{Rule, even, bit, most, places, kept, roundedAt, rounded}
+use Rattle.words.specs.Format.{Format, hid, infinity, units, unitsAt}
+use Rattle.words.specs.Rounding.{Rule, even, bit, most, places, kept, wordAt, roundedAt, rounded}
 use Rattle.words.proofs.Words.{infinity-some}
-use Rattle.words.proofs.Cut.{cut-same}
+use Rattle.words.proofs.Cut.{cut-same, cut-left}
 
 pub bit-le : (b : Bool) → bit b ≤ 1
 bit-le true = omega arith
@@ -27,6 +27,28 @@ rounded-le r f k q more = omega (arith, most-le r f)
 -- ---- equal fractions round alike
 pub rounded-same : (f : Format) (a b c d : ℕ) → 0 < b → 0 < d → a * d ≡ c * b → rounded f a b ≡ rounded f c d
 rounded-same f a b c d B D e = let v = cut-same f a b c d B D e in sym (λ i. roundedAt even f (v .places-are i) (v .kept-is i) (v .rest-is i))
+
+-- ---- nothing rounds to nothing: 0 units, however they are written
+pub units-nothing : (f : Format) → units f 0 ≡ 0
+unfolding units
+units-nothing f = (λ i. unitsAt (hid f) (zero-div (hid f) i) (zero-mod (hid f) i))
+
+pub rounded-nothing : (f : Format) (n den : ℕ) → 0 < f .digits → 0 < den → rounded f (units f 0 * n) den ≡ 0
+unfolding roundedAt wordAt
+rounded-nothing f n den P D =
+    let v = cut-left f 0 0 P (pow-pos (f .digits)) (λ h. absurd (none h)) in
+    rounded-same f (units f 0 * n) den (0 * 2 ^ 0) 1 D (omega arith) (nothing (units f 0) n den (units-nothing f))
+    ∙ sym (λ i. roundedAt even f (v .places-are i) (v .kept-is i) (v .rest-is i))
+    ∙ least (hid f) (most even f)
+  where
+    none : 0 < 0 → ⊥
+    none h = omega arith
+
+    nothing : (u n d : ℕ) → u ≡ 0 → u * n * 1 ≡ 0 * d
+    nothing u n d e = omega (arith, ap (λ (z : ℕ). z * n) e)
+
+    least : (h m : ℕ) → min (0 * h + 0 + 0) m ≡ 0
+    least h m = omega arith
 
 -- ---- half of what is kept is the whole part
 module _ (f : Format) (num den : ℕ) (P : 0 < f .digits) (D : 0 < den) where
