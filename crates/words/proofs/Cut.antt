@@ -1,7 +1,7 @@
--- How a fraction of units is cut: equal fractions alike, and the two shifts that an engine makes. Over any format. Assumes nothing.
+-- How a fraction of units is cut: equal fractions alike, and a whole number of them at once. Over any format. Assumes nothing.
 use mathlib.Core.Path.{_≡_, refl, sym, ap, _∙_, subst}
 use Prim.Native.Nat.{ℕ, zero, suc, _+_, _-_, _*_, _/_, _%_, _^_, _≤_, _<_}
-use native.Mathlib.Nat.{le-trans, le-of-eq, lt-of-le-of-lt, eq-zero-or-pos, mul-one, mul-pos, mul-le-mul-right, mul-div-cancel, mul-mod-left, div-one, div-add-mod', div-lt-iff-lt-mul, div-div-eq-div-mul, div-le-self}
+use native.Mathlib.Nat.{le-trans, le-of-eq, eq-zero-or-pos, mul-one, mul-pos, mul-le-mul-right, mul-div-cancel, mul-mod-left, div-one, div-add-mod'}
 use native.Mathlib.Omega.{arith}
 use mathlib.Core.Logic.{_⊎_, inl, inr}
 use mathlib.Core.Bool.{Bool, false}
@@ -10,7 +10,6 @@ use borrow.Author.Tests.{lt-ltb}
 use lib.Pow.{pow-add, pow-pos, shl-lt}
 use lib.Ieee.{size}
 use lib.Ieee.Digits.{size-le}
-use lib.Ieee.Fits.{kept-lt}
 use lib.Ieee.Nearest.{div-same}
 use Rattle.words.specs.Format.{Format}
 use Rattle.words.specs.Rounding.{places, kept, rest}
@@ -64,11 +63,6 @@ cut-same f a b c d B D e =
     twice : (a b c d u : ℕ) → a * d ≡ c * b → 2 * a * (d * u) ≡ 2 * c * (b * u)
     twice a b c d u e = omega (arith, ap (λ (z : ℕ). z * u) e)
 
-pub cut-trans : {f : Format} {a b c d k q : ℕ} {more : Bool} → 0 < b → 0 < d → a * d ≡ c * b → IsCut f c d k q more → IsCut f a b k q more
-cut-trans {f} {a} {b} {c} {d} B D e v =
-    let s = cut-same f a b c d B D e in
-    record { places-are = v .places-are ∙ s .places-are; kept-is = v .kept-is ∙ s .kept-is; rest-is = v .rest-is ∙ s .rest-is }
-
 -- ---- a shift to the left: m * 2 ^ k units, m of at most `digits` digits, and of all of them where k is not 0
 pub cut-left : (f : Format) (m k : ℕ) → 0 < f .digits → m < 2 ^ f .digits → (0 < k → 2 ^ (f .digits - 1) ≤ m) → IsCut f (m * 2 ^ k) 1 k (2 * m) false
 cut-left f m k P M K =
@@ -97,31 +91,3 @@ cut-left f m k P M K =
     drops (inr h) =
         less (size (m * 2 ^ k)) (f .digits) k P
         (size-exact (f .digits - 1 + k) (m * 2 ^ k) (le-trans (le-of-eq (pow-add 2 (f .digits - 1) k)) (mul-le-mul-right (2 ^ k) (K h))) (subst (λ (z : ℕ). m * 2 ^ k < 2 ^ z) (next (f .digits) k P) (shl-lt (f .digits) k M)))
-
--- ---- a shift to the right: q / 2 ^ s units, q of at most `digits` digits
-pub cut-right : (f : Format) (q s : ℕ) → q < 2 ^ f .digits → IsCut f q (2 ^ s) 0 (2 * q / 2 ^ s) (ltb 0 (2 * q % 2 ^ s))
-cut-right f q s Q =
-    let u = 2 ^ s in
-    let z : places f q u ≡ 0 = none (size (q / u)) (f .digits) (size-le (q / u) (f .digits) (lt-of-le-of-lt (div-le-self q u) Q)) in
-    let e : u ≡ u * 2 ^ places f q u = sym (ap (λ (y : ℕ). u * 2 ^ y) z ∙ mul-one u) in
-    record {
-      places-are = sym z;
-      kept-is = ap (λ (y : ℕ). 2 * q / y) e;
-      rest-is = ap (λ (y : ℕ). ltb 0 (2 * q % y)) e;
-    }
-  where
-    none : (z p : ℕ) → z ≤ p → z - p ≡ 0
-    none z p h = omega arith
-
--- what is kept has one digit more than the format
-pub kept-below : (f : Format) (num den : ℕ) → 0 < den → kept f num den < 2 ^ (f .digits + 1)
-kept-below f num den D =
-    let p = f .digits in
-    let k = places f num den in
-    let u = den * 2 ^ k in
-    let U : 0 < u = mul-pos D (pow-pos k) in
-    let small : num / u < 2 ^ p = subst (λ (x : ℕ). x < 2 ^ p) (div-div-eq-div-mul num den (2 ^ k)) (kept-lt p (num / den)) in
-    div-lt-iff-lt-mul U .1 (go num u (2 ^ p) (2 ^ (p + 1)) (pow-add 2 p 1) (div-lt-iff-lt-mul U .0 small))
-  where
-    go : (n u w v : ℕ) → v ≡ w * 2 → n < w * u → 2 * n < v * u
-    go n u w v e h = omega (arith, ap (λ (z : ℕ). z * u) e)

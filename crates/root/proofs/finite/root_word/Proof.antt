@@ -4,7 +4,8 @@ use mathlib.Core.Path.{_≡_, sym, ap, _∙_}
 use native.Mathlib.Nat.{zero-mod, mod-eq-of-lt, lt-trans}
 use native.Mathlib.Omega.{arith}
 use borrow.Author.Needs.{needs}
-use Rattle.words.specs.Format.{format, top, infinity}
+use Rattle.root.specs.Root.{lifted, rootAt}
+use Rattle.words.specs.Format.{units, format, top, infinity}
 use Rattle.words.proofs.Digits.{room}
 use Rattle.words.proofs.Words.{infinity-below}
 use Rattle.root.proofs.Words.{root-zero, root-nan, root-infinity, root-finite, minus-zero, not-zero}
@@ -30,7 +31,7 @@ returns-2 c =
     let at = c .before in
     let a = at .before .before .before .before .args in
     let f = format (a .p) (a .emax) in
-    c .finite-root .ensures ∙ sym (root-finite f (a .x) (some (a .x) (top f) (lt-trans (below at) (infinity-below f)) (at .before .if1 .left)) (below at))
+    _∙_ {b = rootAt f (lifted f (units f (a .x)))} (c .finite-root .ensures) (sym (root-finite f (a .x) (some (a .x) (top f) (lt-trans (below at) (infinity-below f)) (at .before .if1 .left)) (below at)))
 
 returns-3 : tie.Need-returns-3
 returns-3 c =
