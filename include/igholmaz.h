@@ -1,0 +1,110 @@
+/* igholmaz: roots, scaling and powers of f32 and f64, with proved bits.
+ *
+ * Every operand and result is an IEEE 754 bit pattern ("word"): uint32_t for f32, uint64_t for f64. Names end
+ * in f or d as those of libm.rs do. Where a result is NaN it is IGHOLMAZ_NAN_F or IGHOLMAZ_NAN_D; only fabs
+ * keeps the NaN that it was given. No call allocates, keeps state or stops the program.
+ *
+ * A slice is a pointer to its first element and its length in elements. With length 0 nothing is read through
+ * the pointer. A result slice shares no memory with an operand slice.
+ */
+#ifndef IGHOLMAZ_H
+#define IGHOLMAZ_H
+
+#include <stddef.h>
+#include <stdint.h>
+#ifndef __cplusplus
+#include <stdbool.h>
+#else
+extern "C" {
+#endif
+
+#define IGHOLMAZ_NAN_F UINT32_C(0x7fc00000)
+#define IGHOLMAZ_NAN_D UINT64_C(0x7ff8000000000000)
+
+/* Refusals: the number of an answer. */
+#define IGHOLMAZ_DONE UINT32_C(0)            /* no refusal */
+#define IGHOLMAZ_LENGTHS_DIFFER UINT32_C(1)  /* operand and result slices are not all of one length */
+#define IGHOLMAZ_TOO_LONG UINT32_C(2)        /* lengths agree and exceed IGHOLMAZ_BATCH_MOST */
+#define IGHOLMAZ_NOT_POSITIVE UINT32_C(3)    /* partial root of a zero, negative, infinite or NaN operand */
+#define IGHOLMAZ_TOO_MANY_ROUNDS UINT32_C(4) /* operand fit, but more than IGHOLMAZ_ROUNDS_MOST_F or _D asked */
+
+/* Limits. */
+#define IGHOLMAZ_BATCH_MOST 4096  /* elements of a batch */
+#define IGHOLMAZ_ROUNDS_MOST_F 25 /* rounds of a partial root of an f32 */
+#define IGHOLMAZ_ROUNDS_MOST_D 54 /* rounds of a partial root of an f64 */
+
+/* Of roots and scaling: number is 0; an f32 word stands in the low half of word. */
+typedef struct {
+    uint32_t number;
+    uint64_t word;
+} igholmaz_answer;
+
+/* Of partial roots. Refused with 3 or 4: digits, left and rounds are 0. */
+typedef struct {
+    uint32_t number;
+    uint64_t digits;
+    uint64_t left;
+    uint32_t rounds;
+} igholmaz_partial;
+
+/* Of the sorting of power operands: number is 0. Settled: open is false and word is the power's word. Open:
+ * open is true, negative says whether the power's sign is set, and word is 0. */
+typedef struct {
+    uint32_t number;
+    bool open;
+    bool negative;
+    uint64_t word;
+} igholmaz_sorted;
+
+/* Of batches: count is the number of results written. Refused with 1 or 2: count is 0, results untouched. */
+typedef struct {
+    uint32_t number;
+    size_t count;
+} igholmaz_batch;
+
+/* x with its sign bit cleared and every other bit kept, in a NaN too. */
+uint32_t igholmaz_fabsf(uint32_t x);
+uint64_t igholmaz_fabsd(uint64_t x);
+
+/* x times 2^n rounded once, ties to even, with the sign of x; zero and infinity are unchanged. */
+igholmaz_answer igholmaz_scalbnf(uint32_t x, int32_t n);
+igholmaz_answer igholmaz_scalbnd(uint64_t x, int32_t n);
+
+/* The square root rounded once, ties to even. The root of a zero is that zero, of +infinity +infinity, of
+ * a negative nonzero number NaN. */
+igholmaz_answer igholmaz_sqrtf(uint32_t x);
+igholmaz_answer igholmaz_sqrtd(uint64_t x);
+
+/* The first binary digits of the root, one for each round, and what is left over. With p = 24 or 53,
+ * x = M * 4^E, 1 <= M < 4, W = M * 2^(p-1) and k rounds: digits is the Q with
+ * 2^(p+1) * Q^2 <= 4^k * W < 2^(p+1) * (Q+1)^2, left is 2^(k+1) * W - 2^(p+2-k) * Q^2, rounds is k.
+ * Refused: 3 for an x that is not positive and finite, else 4 for more than p + 1 rounds. */
+igholmaz_partial igholmaz_partial_sqrtf(uint32_t x, uint32_t rounds);
+igholmaz_partial igholmaz_partial_sqrtd(uint64_t x, uint32_t rounds);
+
+/* Whether x to the y is settled by rule (zeros, infinities, NaN, 1; y = 1, -1, 2, 0.5) or open. */
+igholmaz_sorted igholmaz_sort_powf(uint32_t x, uint32_t y);
+igholmaz_sorted igholmaz_sort_powd(uint64_t x, uint64_t y);
+
+/* x to the y: the settled word, or for open operands the same operations in the same order as libm.rs. */
+uint32_t igholmaz_powf(uint32_t x, uint32_t y);
+uint64_t igholmaz_powd(uint64_t x, uint64_t y);
+
+/* Batches: out[i] is the word that the single call gives for xs[i], or for xs[i] with ns[i] or ys[i].
+ * Refused: 1 when the lengths are not all equal, else 2 when they exceed IGHOLMAZ_BATCH_MOST. */
+igholmaz_batch igholmaz_sqrtf_batch(const uint32_t *xs, size_t xs_len, uint32_t *out, size_t out_len);
+igholmaz_batch igholmaz_sqrtd_batch(const uint64_t *xs, size_t xs_len, uint64_t *out, size_t out_len);
+igholmaz_batch igholmaz_scalbnf_batch(const uint32_t *xs, size_t xs_len, const int32_t *ns, size_t ns_len,
+                                      uint32_t *out, size_t out_len);
+igholmaz_batch igholmaz_scalbnd_batch(const uint64_t *xs, size_t xs_len, const int32_t *ns, size_t ns_len,
+                                      uint64_t *out, size_t out_len);
+igholmaz_batch igholmaz_powf_batch(const uint32_t *xs, size_t xs_len, const uint32_t *ys, size_t ys_len,
+                                   uint32_t *out, size_t out_len);
+igholmaz_batch igholmaz_powd_batch(const uint64_t *xs, size_t xs_len, const uint64_t *ys, size_t ys_len,
+                                   uint64_t *out, size_t out_len);
+
+#ifdef __cplusplus
+}
+#endif
+
+#endif
