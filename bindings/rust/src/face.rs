@@ -1,0 +1,72 @@
+//! The C face of the archive, as `include/igholmaz.h` has it. Every word is an IEEE 754 bit pattern.
+
+/// The most elements that a batch takes.
+pub const BATCH_MOST: usize = 4096;
+/// The most rounds of a partial root of an f32.
+pub const ROUNDS_MOST_F: u32 = 25;
+/// The most rounds of a partial root of an f64.
+pub const ROUNDS_MOST_D: u32 = 54;
+
+/// Of roots and scaling. An f32 word stands in the low half.
+#[repr(C)]
+#[derive(Clone, Copy)]
+pub struct Answer {
+    pub number: u32,
+    pub word: u64,
+}
+
+/// Of partial roots.
+#[repr(C)]
+#[derive(Clone, Copy)]
+pub struct Partial {
+    pub number: u32,
+    pub digits: u64,
+    pub left: u64,
+    pub rounds: u32,
+}
+
+/// Of the sorting of power operands: open with the sign of the result, or settled with its word.
+#[repr(C)]
+#[derive(Clone, Copy)]
+pub struct Sorted {
+    pub number: u32,
+    pub open: bool,
+    pub negative: bool,
+    pub word: u64,
+}
+
+/// Of batches.
+#[repr(C)]
+#[derive(Clone, Copy)]
+pub struct Batch {
+    pub number: u32,
+    pub count: usize,
+}
+
+macro_rules! face {
+    ($($word:ty: $fabs:ident $scalbn:ident $sqrt:ident $partial:ident $sort:ident $pow:ident
+        $sqrts:ident $scalbns:ident $pows:ident;)*) => {
+        extern "C" {
+            $(
+                pub fn $fabs(x: $word) -> $word;
+                pub fn $scalbn(x: $word, n: i32) -> Answer;
+                pub fn $sqrt(x: $word) -> Answer;
+                pub fn $partial(x: $word, rounds: u32) -> Partial;
+                pub fn $sort(x: $word, y: $word) -> Sorted;
+                pub fn $pow(x: $word, y: $word) -> $word;
+                pub fn $sqrts(xs: *const $word, xs_len: usize, out: *mut $word, out_len: usize) -> Batch;
+                pub fn $scalbns(xs: *const $word, xs_len: usize, ns: *const i32, ns_len: usize,
+                    out: *mut $word, out_len: usize) -> Batch;
+                pub fn $pows(xs: *const $word, xs_len: usize, ys: *const $word, ys_len: usize,
+                    out: *mut $word, out_len: usize) -> Batch;
+            )*
+        }
+    };
+}
+
+face! {
+    u32: igholmaz_fabsf igholmaz_scalbnf igholmaz_sqrtf igholmaz_partial_sqrtf igholmaz_sort_powf igholmaz_powf
+        igholmaz_sqrtf_batch igholmaz_scalbnf_batch igholmaz_powf_batch;
+    u64: igholmaz_fabsd igholmaz_scalbnd igholmaz_sqrtd igholmaz_partial_sqrtd igholmaz_sort_powd igholmaz_powd
+        igholmaz_sqrtd_batch igholmaz_scalbnd_batch igholmaz_powd_batch;
+}
