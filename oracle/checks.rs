@@ -1,0 +1,170 @@
+//! One answer of the port held against the other sides or against document 01's definition.
+
+use crate::operations::{Batched, Operation, Width, GUARD};
+use crate::sides::face::{Batch, Partial, Sorted, BATCH_MOST};
+use crate::words::{Draw, Format};
+
+/// What a piece of work has counted. At `plant`, counted from 1, the port's answer is altered in one bit.
+#[derive(Default)]
+pub struct Tally {
+    pub results: u64,
+    pub differ: u64,
+    pub first: Option<String>,
+    pub plant: u64,
+}
+
+impl Tally {
+    /// Counts an answer of the port and gives it back, altered where a fault is planted.
+    fn taken(&mut self, word: u64) -> u64 {
+        self.results += 1;
+        word ^ u64::from(self.results == self.plant)
+    }
+
+    fn held(&mut self, good: bool, say: impl FnOnce() -> String) {
+        if !good {
+            self.differ += 1;
+            if self.first.is_none() {
+                self.first = Some(say());
+            }
+        }
+    }
+
+    /// fabs, scaling, root or power: every side has the port's word, and the number is 0.
+    pub fn single(&mut self, op: &Operation, x: u64, y: u64) {
+        let answer = (op.port)(x, y);
+        let word = self.taken(answer.word);
+        let agrees = |theirs: u64| if op.bits { word == theirs } else { op.format.same(word, theirs) };
+        let good = answer.number == 0 && op.sides.iter().all(|(_, side)| agrees(side(x, y)));
+        self.held(good, || {
+            let sides: String =
+                op.sides.iter().map(|(name, side)| format!("\n    {name:26} {}", shown(op.format, side(x, y)))).collect();
+            let port = shown(op.format, word);
+            format!("{} of {}{sides}\n    {:26} {port} (number {})", op.name, operands(op, x, y), "the port", answer.number)
+        });
+    }
+
+    /// A partial root: document 01's inequality and left-over, or refusal 3 or 4 and zeros. After the last
+    /// round the digits, rounded, must be the processor's root.
+    pub fn partial(&mut self, width: &Width, x: u64, rounds: u32) {
+        let f = width.sqrt.format;
+        let mut got = (width.partial.1)(x, rounds);
+        got.digits = self.taken(got.digits);
+        let good = if x == 0 || x >= f.infinity() {
+            zeros(&got, 3)
+        } else if rounds > f.p + 1 {
+            zeros(&got, 4)
+        } else {
+            got.number == 0 && got.rounds == rounds && defined(f, x, &got) && {
+                let (_, processor) = width.sqrt.sides[2];
+                rounds <= f.p || rounded(f, x, got.digits) == processor(x, 0)
+            }
+        };
+        self.held(good, || {
+            let Partial { number, digits, left, rounds: k } = got;
+            format!("{} of x = {}, rounds = {rounds}\n    {:26} number {number}, digits {digits}, left-over {left}, rounds {k}",
+                width.partial.0, shown(f, x), "the port")
+        });
+    }
+
+    /// The sorting: open exactly as document 01's rules say, with the sign of the original's power, or
+    /// settled with the original's power.
+    pub fn sorted(&mut self, width: &Width, x: u64, y: u64) {
+        let f = width.pow.format;
+        let got = (width.sort.1)(x, y);
+        let word = self.taken(got.word);
+        let open = opened(f.value(x), f.value(y));
+        let agrees = |theirs: u64| match open {
+            Some(negative) => got.negative == negative && word == 0 && (theirs & f.sign() != 0) == negative,
+            None => !got.negative && f.same(word, theirs),
+        };
+        let good = got.number == 0 && got.open == open.is_some() && width.pow.sides.iter().all(|(_, side)| agrees(side(x, y)));
+        self.held(good, || {
+            let Sorted { number, open, negative, .. } = got;
+            let powers: String =
+                width.pow.sides.iter().map(|(name, side)| format!("\n    {name:26} {}", shown(f, side(x, y)))).collect();
+            format!("{} of {}{powers}\n    {:26} number {number}, open {open}, negative {negative}, word {}",
+                width.sort.0, operands(width.pow, x, y), "the port", shown(f, word))
+        });
+    }
+
+    /// A batch over drawn operands: its number and count, the result words as single calls give them or
+    /// untouched, the words around them untouched, the operands kept.
+    pub fn batch(&mut self, batch: &Batched, lens: [usize; 3], d: &mut Draw, draw: fn(Format, &mut Draw) -> (u64, u64)) {
+        let op = batch.single;
+        let pairs: Vec<(u64, u64)> = (0..lens[0].max(lens[1])).map(|_| draw(op.format, d)).collect();
+        let xs: Vec<u64> = pairs[..lens[0]].iter().map(|pair| pair.0).collect();
+        let ys: Vec<u64> = pairs[..lens[1]].iter().map(|pair| pair.1).collect();
+        let before: Vec<u64> = (0..lens[2] + 2 * GUARD).map(|_| op.format.fit(d.next())).collect();
+        let mut after = before.clone();
+        let (Batch { number, count }, kept) = (batch.call)(&xs, &ys, &mut after);
+
+        let equal = lens[0] == lens[2] && (batch.operands == 1 || lens[1] == lens[2]);
+        let expected = if !equal { 1 } else if lens[2] > BATCH_MOST { 2 } else { 0 };
+        let counted = self.taken(count as u64);
+        let good = kept && number == expected && counted == if expected == 0 { lens[2] as u64 } else { 0 };
+        self.held(good, || {
+            let wanted = if expected == 0 { lens[2] } else { 0 };
+            format!("{} of lengths {lens:?}: number {number}, count {counted}; it should be {expected} and {wanted}; operands kept: {kept}", batch.name)
+        });
+        for (i, (&old, &new)) in before.iter().zip(&after).enumerate() {
+            let place = i.wrapping_sub(GUARD);
+            let (got, wanted, why) = if expected == 0 && place < lens[2] {
+                let (x, y) = pairs[place];
+                (self.taken(new), (op.port)(x, y).word, operands(op, x, y))
+            } else {
+                (new, old, "untouched".into())
+            };
+            self.held(got == wanted, || {
+                format!("{} of lengths {lens:?}, result {}: {}; it should be {} ({why})",
+                    batch.name, place as isize, shown(op.format, got), shown(op.format, wanted))
+            });
+        }
+    }
+}
+
+fn zeros(got: &Partial, number: u32) -> bool {
+    got.number == number && got.digits == 0 && got.left == 0 && got.rounds == 0
+}
+
+/// 2^(p+1)·Q² ≤ 4^k·W < 2^(p+1)·(Q+1)² and left-over 2^(k+1)·W − 2^(p+2−k)·Q², both sides of the first
+/// divided by the powers of two that they share.
+fn defined(f: Format, x: u64, got: &Partial) -> bool {
+    let (p, k) = (f.p, got.rounds);
+    let (w, q) = (u128::from(f.whole(x).0), u128::from(got.digits));
+    if q >> k != 0 {
+        return false;
+    }
+    let (w_by, q_by) = (1u128 << (2 * k).saturating_sub(p + 1), 1u128 << (p + 1).saturating_sub(2 * k));
+    let within = q_by * q * q <= w_by * w && w_by * w < q_by * (q + 1) * (q + 1);
+    within && u128::from(got.left) == (w << (k + 1)) - (q * q << (p + 2 - k))
+}
+
+/// The root from its p + 1 digits: an odd Q raised by 1, then halved to S; S·2^(E-p+1).
+fn rounded(f: Format, x: u64, q: u64) -> u64 {
+    let s = (q + q % 2) / 2;
+    f.power(f.whole(x).1) + s - f.hid()
+}
+
+/// Document 01's rules: none where they settle the power, else whether it is negative.
+fn opened(x: f64, y: f64) -> Option<bool> {
+    let settled = [0., 1., -1., 2.].contains(&y)
+        || !(x.is_finite() && y.is_finite())
+        || [0., 1.].contains(&x.abs())
+        || x > 0. && y == 0.5
+        || x < 0. && y != y.trunc();
+    (!settled).then_some(x < 0. && (y % 2.).abs() == 1.)
+}
+
+fn operands(op: &Operation, x: u64, y: u64) -> String {
+    let second = match op.name {
+        "scalbnf" | "scalbnd" => format!(", n = {}", y as i32),
+        "powf" | "powd" => format!(", y = {}", shown(op.format, y)),
+        _ => String::new(),
+    };
+    format!("x = {}{second}", shown(op.format, x))
+}
+
+fn shown(f: Format, word: u64) -> String {
+    let digits = if f.p == 24 { 8 } else { 16 };
+    format!("0x{word:0digits$x} ({:e})", f.value(word))
+}

@@ -1,0 +1,122 @@
+//! Drawn operands, with those favoured at which an error would show: at the edges of the format, at
+//! roundings that are nearly ties, and on both sides of every branch of the original.
+
+use crate::words::{Draw, Format};
+
+/// Any word, or one with a telling shape. One in eight has its sign set.
+pub fn operand(f: Format, d: &mut Draw) -> u64 {
+    let field = d.below(2 * f.emax as u64 + 2) * f.hid();
+    let place = d.below(f.p.into()) as u32;
+    let size = match d.below(6) {
+        0 => f.fit(d.next()),
+        1 => d.sized(f.p - 1),
+        2 => d.near(f, field, 3),
+        // Zeros, ones, or one digit and zeros from a drawn place down: ties once the digits below it go.
+        3 => field | (d.next() & f.hid() - 1) >> place << place,
+        4 => field | d.next() & f.hid() - 1 | (1 << place) - 1,
+        _ => field | d.next() << 1 << place & f.hid() - 1 | 1 << place & f.hid() - 1,
+    };
+    if d.below(8) == 0 { size ^ f.sign() } else { size & !f.sign() }
+}
+
+/// A word whose root is nearly S or nearly halfway to the next, S of p digits, among them such with ones or
+/// zeros in their low half: S² or S² + S cut to p digits, or a word next to that.
+pub fn near_root(f: Format, d: &mut Draw) -> u64 {
+    let (p, low) = (f.p, (1 << (f.p / 2)) - 1);
+    let drawn = f.hid() | d.next() & f.hid() - 1;
+    let s = match d.below(3) {
+        0 => drawn,
+        1 => drawn | low,
+        _ => drawn & !low,
+    };
+    let square = u128::from(s) * u128::from(s + d.below(2));
+    let digits = 128 - square.leading_zeros();
+    let kept = (square >> (digits - p)) as u64 - f.hid();
+    // Any exponent of the square's parity leaves the root's digits as they are.
+    let field = 2 * d.below(f.emax as u64) + 1 + u64::from(digits % 2 == 0);
+    d.near(f, field * f.hid() + kept, 2)
+}
+
+/// An operand of the root.
+pub fn root(f: Format, d: &mut Draw) -> u64 {
+    if d.below(2) == 0 { near_root(f, d) } else { operand(f, d) }
+}
+
+/// An operand of scaling and its n: any n, one near a step or a clamp, or one that brings the result to the
+/// edge of the subnormal numbers or of infinity.
+pub fn scaling(f: Format, d: &mut Draw) -> (u64, u64) {
+    let x = operand(f, d);
+    let (p, emax) = (i64::from(f.p), i64::from(f.emax));
+    let field = (x & !f.sign()).max(1) / f.hid();
+    let e = if field > 0 { field as i64 - emax } else { (63 - (x & !f.sign()).max(1).leading_zeros()) as i64 + 2 - emax - p };
+    let n = match d.below(5) {
+        0 => d.next() as i32 as i64,
+        1 => d.within(-2 * emax - p - 9, 2 * emax + p + 9),
+        2 => d.of(&[0, emax, 2 * emax, 3 * emax, -emax, p - 2 * emax, 2 * p - 3 * emax]) + d.within(-3, 3),
+        3 => 1 - emax - e - d.within(-3, p + 3),
+        _ => emax - e + d.within(-3, 3),
+    };
+    (x, n as i32 as u32 as u64)
+}
+
+/// The operands of a power: x at the branches of the original, and y such that the power is finite, or at
+/// its limits, or at a branch of its own.
+pub fn power(f: Format, d: &mut Draw) -> (u64, u64) {
+    let x = base(f, d);
+    let log = f.value(x).log2();
+    let (top, bottom) = (f64::from(f.emax) + 1., 1. - f64::from(f.emax));
+    let least = bottom - f64::from(f.p) + 1.;
+    let y = match d.below(16) {
+        0 => f.fit(d.next()),
+        1..=5 => f.word(d.real(least - 9., top + 9.) / log),
+        // y·log2(x) at overflow, at the least normal result, at the least subnormal one and below it.
+        6 | 7 => {
+            let z = d.of(&[top, bottom, least, least - 1.]) * (1. + d.real(-1., 1.) / d.sized(50) as f64);
+            d.near(f, f.word(z / log), 2)
+        }
+        // y·log2(x) at a half or a whole number.
+        8 => {
+            let z = d.within(2 * least as i64, 2 * top as i64) as f64 / 2.;
+            d.near(f, f.word(z / log), 2)
+        }
+        9 | 10 => {
+            let e = d.of(&[f.p as i32 - 1, f.p as i32, 20, 24, 27, 31, 32, 53, 63, 64, 65]);
+            // Of an f64 the original looks at the high half alone, so the drawn words reach beyond the low one.
+            let (units, turned) = (d.of(&[1, 8, 1 << (f.p - 20)]), d.below(2) * f.sign());
+            d.near(f, f.power(e), units) ^ turned
+        }
+        11..=13 => {
+            let whole = d.sized(f.p + 2) as f64;
+            let half = d.of(&[0., 0., 0., 0.5]);
+            f.word(d.of(&[1., -1.]) * (whole + half))
+        }
+        14 => {
+            let settled = d.of(&[1., -1., 2., 0.5, -0.5, 3., -2., 1.5]);
+            d.near(f, f.word(settled), 2)
+        }
+        _ => operand(f, d),
+    };
+    let whole = f.value(y).trunc() == f.value(y);
+    let turned = d.below(if whole { 2 } else { 16 }) == 0;
+    (if turned { x ^ f.sign() } else { x }, y)
+}
+
+/// A positive x: any, near 1, at the ends of the chain's intervals, subnormal, of moderate size, or whole.
+fn base(f: Format, d: &mut Draw) -> u64 {
+    let size = match d.below(8) {
+        0 => d.next(),
+        1 | 2 => {
+            let units = d.sized(f.p - 1);
+            if d.below(2) == 0 { f.one() + units } else { f.one() - units }
+        }
+        3 => {
+            let cut = d.of(&if f.p == 24 { [0x1c_c472, 0x5d_b3d7] } else { [0x3_988f_0000_0000, 0xb_b67a_0000_0000] });
+            let field = d.below(2 * f.emax as u64 + 1);
+            d.near(f, field * f.hid() + cut, 3)
+        }
+        4 => d.sized(f.p - 1),
+        5 | 6 => f.power(d.within(-9, 9) as i32) + (d.next() & f.hid() - 1),
+        _ => f.word(d.sized(f.p) as f64),
+    };
+    f.fit(size) & !f.sign()
+}

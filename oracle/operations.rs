@@ -1,0 +1,126 @@
+//! The port's functions by name, each with the sides that it is held against, on words as u64.
+
+use crate::sides::face::{self, Answer, Batch, Partial, Sorted};
+use crate::sides::{as_it_stands, without_sse};
+use crate::words::{Format, DOUBLE, SINGLE};
+
+/// A second operand is a word, or n as the word of an i32.
+pub struct Operation {
+    pub name: &'static str,
+    pub format: Format,
+    pub port: fn(u64, u64) -> Answer,
+    pub sides: &'static [(&'static str, fn(u64, u64) -> u64)],
+    /// Whether NaN is compared bit by bit, as for fabs.
+    pub bits: bool,
+}
+
+/// A batch lends the port its operands and, of `memory`, all but GUARD words at each end. It answers what the
+/// port answered and whether the operands are still what they were.
+pub struct Batched {
+    pub name: &'static str,
+    pub single: &'static Operation,
+    pub operands: usize,
+    pub call: fn(&[u64], &[u64], &mut [u64]) -> (Batch, bool),
+}
+
+pub const GUARD: usize = 16;
+
+pub struct Width {
+    pub fabs: &'static Operation,
+    pub scalbn: &'static Operation,
+    pub sqrt: &'static Operation,
+    pub pow: &'static Operation,
+    pub partial: (&'static str, fn(u64, u32) -> Partial),
+    pub sort: (&'static str, fn(u64, u64) -> Sorted),
+    pub batches: [Batched; 3],
+}
+
+macro_rules! operation {
+    ($format:expr, $name:ident, $bits:expr, $port:expr, |$x:ident, $y:ident| ($($operand:expr),*) $(, $processor:expr)?) => {
+        &Operation {
+            name: stringify!($name),
+            format: $format,
+            port: $port,
+            sides: &[
+                ("the original without sse", |$x, $y| without_sse::$name($($operand),*).to_bits().into()),
+                ("the original as it stands", |$x, $y| as_it_stands::$name($($operand),*).to_bits().into()),
+                $(("the processor", $processor))?
+            ],
+            bits: $bits,
+        }
+    };
+}
+
+macro_rules! batched {
+    ($name:ident, $call:ident, $single:expr, $word:ident $(, $second:ty)?) => {
+        Batched {
+            name: stringify!($name),
+            single: $single,
+            operands: 1 $(+ (size_of::<$second>() > 0) as usize)?,
+            call: |xs, ys, memory| {
+                let (a, mut m) = (words(xs, |x| x as $word), words(memory, |x| x as $word));
+                let _ = ys;
+                $(let b = words(ys, |y| y as $second);)?
+                let (out, len) = (m[GUARD..].as_mut_ptr(), m.len() - 2 * GUARD);
+                let answer = unsafe {
+                    face::$call(a.as_ptr(), a.len(), $(b.as_ptr() as *const $second, b.len(),)? out, len)
+                };
+                memory.copy_from_slice(&words(&m, u64::from));
+                (answer, a == words(xs, |x| x as $word) $(&& b == words(ys, |y| y as $second))?)
+            },
+        }
+    };
+}
+
+fn words<A: Copy, B>(list: &[A], to: fn(A) -> B) -> Vec<B> {
+    list.iter().map(|&w| to(w)).collect()
+}
+
+macro_rules! width {
+    ($width:ident, $format:expr, $word:ident $float:ident: $fabs:ident $scalbn:ident $sqrt:ident $pow:ident;
+        $c_fabs:ident $c_scalbn:ident $c_sqrt:ident $c_pow:ident
+        $partial:ident $c_partial:ident $sort:ident $c_sort:ident
+        $sqrts:ident $c_sqrts:ident $scalbns:ident $c_scalbns:ident $pows:ident $c_pows:ident) => {
+        pub static $width: Width = {
+            fn float(x: u64) -> $float {
+                $float::from_bits(x as $word)
+            }
+            static FABS: &Operation = operation!($format, $fabs, true,
+                |x, _| plain(unsafe { face::$c_fabs(x as $word) }.into()), |x, _y| (float(x)));
+            static SCALBN: &Operation = operation!($format, $scalbn, false,
+                |x, n| unsafe { face::$c_scalbn(x as $word, n as i32) }, |x, n| (float(x), n as i32));
+            static SQRT: &Operation = operation!($format, $sqrt, false,
+                |x, _| unsafe { face::$c_sqrt(x as $word) }, |x, _y| (float(x)),
+                |x, _| float(x).sqrt().to_bits().into());
+            static POW: &Operation = operation!($format, $pow, false,
+                |x, y| plain(unsafe { face::$c_pow(x as $word, y as $word) }.into()), |x, y| (float(x), float(y)));
+            Width {
+                fabs: FABS,
+                scalbn: SCALBN,
+                sqrt: SQRT,
+                pow: POW,
+                partial: (stringify!($partial), |x, rounds| unsafe { face::$c_partial(x as $word, rounds) }),
+                sort: (stringify!($sort), |x, y| unsafe { face::$c_sort(x as $word, y as $word) }),
+                batches: [
+                    batched!($sqrts, $c_sqrts, SQRT, $word),
+                    batched!($scalbns, $c_scalbns, SCALBN, $word, i32),
+                    batched!($pows, $c_pows, POW, $word, $word),
+                ],
+            }
+        };
+    };
+}
+
+/// The answer of a function that has no number.
+fn plain(word: u64) -> Answer {
+    Answer { number: 0, word }
+}
+
+width!(F, SINGLE, u32 f32: fabsf scalbnf sqrtf powf;
+    igholmaz_fabsf igholmaz_scalbnf igholmaz_sqrtf igholmaz_powf
+    partial_sqrtf igholmaz_partial_sqrtf sort_powf igholmaz_sort_powf
+    sqrtf_batch igholmaz_sqrtf_batch scalbnf_batch igholmaz_scalbnf_batch powf_batch igholmaz_powf_batch);
+width!(D, DOUBLE, u64 f64: fabsd scalbnd sqrtd powd;
+    igholmaz_fabsd igholmaz_scalbnd igholmaz_sqrtd igholmaz_powd
+    partial_sqrtd igholmaz_partial_sqrtd sort_powd igholmaz_sort_powd
+    sqrtd_batch igholmaz_sqrtd_batch scalbnd_batch igholmaz_scalbnd_batch powd_batch igholmaz_powd_batch);
