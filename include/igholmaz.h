@@ -4,8 +4,8 @@
  * in f or d as those of libm.rs do. Where a result is NaN it is IGHOLMAZ_NAN_F or IGHOLMAZ_NAN_D; only fabs
  * keeps the NaN that it was given. No call allocates, keeps state or stops the program.
  *
- * A slice is a pointer to its first element and its length in elements. With length 0 nothing is read through
- * the pointer. A result slice shares no memory with an operand slice.
+ * A slice is a pointer to its first element and its length in elements. With length 0 nothing is read or written
+ * through the pointer. A result slice must not share memory with an operand slice.
  */
 #ifndef IGHOLMAZ_H
 #define IGHOLMAZ_H

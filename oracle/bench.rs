@@ -35,6 +35,9 @@ fn main() {
     let (rounds, folder, machine) = (words[1].parse().expect("a number of rounds"), &words[2], &words[3]);
     let mut all = rows();
     let count = all.len();
+    println!(
+        "bench: {count} rows, {rounds} passes over {PASS} operands for each of 4 sides; nanoseconds for one operand"
+    );
     let terminal = stderr().is_terminal();
     let timed: Vec<Timed> = all
         .iter_mut()
@@ -56,12 +59,18 @@ fn main() {
     let verdict = format!("{} of {targets} targets met", targets - missed.len());
     let page = page(&timed, rounds, machine, &verdict);
     for (name, text) in [("BENCHMARK.md", page), ("benchmark.svg", plot::svg(&timed))] {
-        std::fs::write(format!("{folder}/{name}"), text).unwrap_or_else(|e| panic!("cannot write {folder}/{name}: {e}"));
+        std::fs::write(format!("{folder}/{name}"), text)
+            .unwrap_or_else(|e| panic!("cannot write {folder}/{name}: {e}"));
     }
     println!("written: {folder}/BENCHMARK.md, {folder}/benchmark.svg");
     for row in &missed {
-        println!("missed: {} on {} operands takes {:.2} of the time of the original without sse, target {:.1}",
-            row.call, row.operands, row.ratio(0), row.target.unwrap());
+        println!(
+            "missed: {} on {} operands takes {:.2} of the time of the original without sse, target {:.1}",
+            row.call,
+            row.operands,
+            row.ratio(0),
+            row.target.unwrap()
+        );
     }
     println!("bench: {verdict}");
     std::process::exit(i32::from(!missed.is_empty()));
@@ -86,13 +95,24 @@ fn time(row: &mut Row, rounds: usize) -> Timed {
 
 /// The medians and the ratios, as text in columns or as a table of Markdown.
 fn table(timed: &[Timed], markdown: bool) -> String {
-    let head = ["call", "operands", "without sse", "as it stands", "C library", "port",
-        "port / without sse", "port / as it stands", "port / C library", "target"];
+    let head = [
+        "call",
+        "operands",
+        "without sse",
+        "as it stands",
+        "C library",
+        "port",
+        "port / without sse",
+        "port / as it stands",
+        "port / C library",
+        "target",
+    ];
     let mut lines = vec![head.map(String::from)];
     for row in timed {
         let [a, b, c, d] = row.ns.map(|ns| format!("{ns:.1}"));
         let [r, s, t] = [0, 1, 2].map(|side| format!("{:.2}", row.ratio(side)));
-        let target = row.target.map_or(String::new(), |most| format!("{most:.1} {}", if row.met() { "met" } else { "MISSED" }));
+        let target =
+            row.target.map_or(String::new(), |most| format!("{most:.1} {}", if row.met() { "met" } else { "MISSED" }));
         lines.push([row.call.into(), row.operands.into(), a, b, c, d, r, s, t, target]);
     }
     let wide: Vec<usize> = (0..head.len()).map(|i| lines.iter().map(|line| line[i].len()).max().unwrap()).collect();
@@ -100,7 +120,11 @@ fn table(timed: &[Timed], markdown: bool) -> String {
     for (n, line) in lines.iter().enumerate() {
         for (i, (cell, wide)) in line.iter().zip(&wide).enumerate() {
             let (before, after) = if markdown { ("| ", " ") } else { ("", "  ") };
-            let _ = if i < 2 { write!(text, "{before}{cell:wide$}{after}") } else { write!(text, "{before}{cell:>wide$}{after}") };
+            let _ = if i < 2 {
+                write!(text, "{before}{cell:wide$}{after}")
+            } else {
+                write!(text, "{before}{cell:>wide$}{after}")
+            };
         }
         text = text.trim_end().to_string() + if markdown { " |\n" } else { "\n" };
         if markdown && n == 0 {

@@ -36,10 +36,8 @@ impl Tally {
         let agrees = |theirs: u64| if op.bits { word == theirs } else { op.format.same(word, theirs) };
         let good = answer.number == 0 && op.sides.iter().all(|(_, side)| agrees(side(x, y)));
         self.held(good, || {
-            let sides: String =
-                op.sides.iter().map(|(name, side)| format!("\n    {name:26} {}", shown(op.format, side(x, y)))).collect();
-            let port = shown(op.format, word);
-            format!("{} of {}{sides}\n    {:26} {port} (number {})", op.name, operands(op, x, y), "the port", answer.number)
+            let port = format!("{} (number {})", shown(op.format, word), answer.number);
+            told(op.name, &operands(op, x, y), &answers(op, x, y), &port)
         });
     }
 
@@ -49,20 +47,40 @@ impl Tally {
         let f = width.sqrt.format;
         let mut got = (width.partial.1)(x, rounds);
         got.digits = self.taken(got.digits);
-        let good = if x == 0 || x >= f.infinity() {
-            zeros(&got, 3)
+        let refusal = if x == 0 || x >= f.infinity() {
+            3
         } else if rounds > f.p + 1 {
-            zeros(&got, 4)
+            4
         } else {
-            got.number == 0 && got.rounds == rounds && defined(f, x, &got) && {
-                let (_, processor) = width.sqrt.sides[2];
-                rounds <= f.p || rounded(f, x, got.digits) == processor(x, 0)
-            }
+            0
         };
+        let (_, processor) = width.sqrt.sides[2];
+        let good = got.number == refusal
+            && if refusal != 0 {
+                (got.digits, got.left, got.rounds) == (0, 0, 0)
+            } else {
+                got.rounds == rounds
+                    && defined(f, x, &got)
+                    && (rounds <= f.p || rounded(f, x, got.digits) == processor(x, 0))
+            };
         self.held(good, || {
             let Partial { number, digits, left, rounds: k } = got;
-            format!("{} of x = {}, rounds = {rounds}\n    {:26} number {number}, digits {digits}, left-over {left}, rounds {k}",
-                width.partial.0, shown(f, x), "the port")
+            let port = format!("number {number}, digits {digits}, left-over {left}, rounds {k}");
+            let expected = if refusal != 0 {
+                format!("number {refusal} and zeros")
+            } else {
+                let w = u128::from(f.whole(x).0);
+                let q =
+                    if 2 * rounds > f.p { w << (2 * rounds - f.p - 1) } else { w >> (f.p + 1 - 2 * rounds) }.isqrt();
+                let left = (w << (rounds + 1)) - (q * q << (f.p + 2 - rounds));
+                format!("number 0, digits {q}, left-over {left}, rounds {rounds}")
+            };
+            told(
+                width.partial.0,
+                &format!("x = {}, rounds = {rounds}", shown(f, x)),
+                &line("it should be", &expected),
+                &port,
+            )
         });
     }
 
@@ -77,19 +95,24 @@ impl Tally {
             Some(negative) => got.negative == negative && word == 0 && (theirs & f.sign() != 0) == negative,
             None => !got.negative && f.same(word, theirs),
         };
-        let good = got.number == 0 && got.open == open.is_some() && width.pow.sides.iter().all(|(_, side)| agrees(side(x, y)));
+        let good =
+            got.number == 0 && got.open == open.is_some() && width.pow.sides.iter().all(|(_, side)| agrees(side(x, y)));
         self.held(good, || {
             let Sorted { number, open, negative, .. } = got;
-            let powers: String =
-                width.pow.sides.iter().map(|(name, side)| format!("\n    {name:26} {}", shown(f, side(x, y)))).collect();
-            format!("{} of {}{powers}\n    {:26} number {number}, open {open}, negative {negative}, word {}",
-                width.sort.0, operands(width.pow, x, y), "the port", shown(f, word))
+            let port = format!("number {number}, open {open}, negative {negative}, word {}", shown(f, word));
+            told(width.sort.0, &operands(width.pow, x, y), &answers(width.pow, x, y), &port)
         });
     }
 
     /// A batch over drawn operands: its number and count, the result words as single calls give them or
     /// untouched, the words around them untouched, the operands kept.
-    pub fn batch(&mut self, batch: &Batched, lens: [usize; 3], d: &mut Draw, draw: fn(Format, &mut Draw) -> (u64, u64)) {
+    pub fn batch(
+        &mut self,
+        batch: &Batched,
+        lens: [usize; 3],
+        d: &mut Draw,
+        draw: fn(Format, &mut Draw) -> (u64, u64),
+    ) {
         let op = batch.single;
         let pairs: Vec<(u64, u64)> = (0..lens[0].max(lens[1])).map(|_| draw(op.format, d)).collect();
         let xs: Vec<u64> = pairs[..lens[0]].iter().map(|pair| pair.0).collect();
@@ -99,31 +122,40 @@ impl Tally {
         let (Batch { number, count }, kept) = (batch.call)(&xs, &ys, &mut after);
 
         let equal = lens[0] == lens[2] && (batch.operands == 1 || lens[1] == lens[2]);
-        let expected = if !equal { 1 } else if lens[2] > BATCH_MOST { 2 } else { 0 };
+        let expected = if !equal {
+            1
+        } else if lens[2] > BATCH_MOST {
+            2
+        } else {
+            0
+        };
+        let wanted = if expected == 0 { lens[2] } else { 0 };
         let counted = self.taken(count as u64);
-        let good = kept && number == expected && counted == if expected == 0 { lens[2] as u64 } else { 0 };
-        self.held(good, || {
-            let wanted = if expected == 0 { lens[2] } else { 0 };
-            format!("{} of lengths {lens:?}: number {number}, count {counted}; it should be {expected} and {wanted}; operands kept: {kept}", batch.name)
+        self.held(kept && number == expected && counted == wanted as u64, || {
+            let port = format!("number {number}, count {counted}, operands kept {kept}");
+            told(
+                batch.name,
+                &format!("lengths {lens:?}"),
+                &line("it should be", &format!("number {expected}, count {wanted}")),
+                &port,
+            )
         });
         for (i, (&old, &new)) in before.iter().zip(&after).enumerate() {
             let place = i.wrapping_sub(GUARD);
-            let (got, wanted, why) = if expected == 0 && place < lens[2] {
+            let inside = expected == 0 && place < lens[2];
+            let (got, wanted) = if inside {
                 let (x, y) = pairs[place];
-                (self.taken(new), (op.port)(x, y).word, operands(op, x, y))
+                (self.taken(new), (op.port)(x, y).word)
             } else {
-                (new, old, "untouched".into())
+                (new, old)
             };
             self.held(got == wanted, || {
-                format!("{} of lengths {lens:?}, result {}: {}; it should be {} ({why})",
-                    batch.name, place as isize, shown(op.format, got), shown(op.format, wanted))
+                let of = if inside { operands(op, pairs[place].0, pairs[place].1) } else { "untouched".into() };
+                let what = format!("lengths {lens:?}, result {}, {of}", place as isize);
+                told(batch.name, &what, &line("it should be", &shown(op.format, wanted)), &shown(op.format, got))
             });
         }
     }
-}
-
-fn zeros(got: &Partial, number: u32) -> bool {
-    got.number == number && got.digits == 0 && got.left == 0 && got.rounds == 0
 }
 
 /// 2^(p+1)·Q² ≤ 4^k·W < 2^(p+1)·(Q+1)² and left-over 2^(k+1)·W − 2^(p+2−k)·Q², both sides of the first
@@ -153,6 +185,19 @@ fn opened(x: f64, y: f64) -> Option<bool> {
         || x > 0. && y == 0.5
         || x < 0. && y != y.trunc();
     (!settled).then_some(x < 0. && (y % 2.).abs() == 1.)
+}
+
+/// A difference in full: the operands, what the others answer, what the port answers.
+fn told(name: &str, operands: &str, others: &str, port: &str) -> String {
+    format!("{name} of {operands}{others}{}", line("the port", port))
+}
+
+fn line(name: &str, answer: &str) -> String {
+    format!("\n    {name:26} {answer}")
+}
+
+fn answers(op: &Operation, x: u64, y: u64) -> String {
+    op.sides.iter().map(|(name, side)| line(name, &shown(op.format, side(x, y)))).collect()
 }
 
 fn operands(op: &Operation, x: u64, y: u64) -> String {

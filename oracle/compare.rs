@@ -19,7 +19,8 @@ use words::Draw;
 
 fn main() {
     let words: Vec<String> = std::env::args().skip(1).collect();
-    let seed: u64 = words.get(1).and_then(|s| s.parse().ok()).unwrap_or_else(|| fail("the seed is not a number below 2^64"));
+    let seed: u64 =
+        words.get(1).and_then(|s| s.parse().ok()).unwrap_or_else(|| fail("the seed is not a number below 2^64"));
     let mode = words[0].as_str();
     let chosen = &words[2..];
     let mut all = parts(Scale { seed, full: mode == "full" });
@@ -47,8 +48,14 @@ fn compared(all: &[Part], mode: &str, seed: u64) -> i32 {
     for part in all {
         let start = Instant::now();
         let sum = on_all_cores(part, cores);
-        println!("  {:15}{:28}{:>18} results {:>6} differ {:>8.1} s",
-            part.name, part.label, grouped(sum.results), grouped(sum.differ), start.elapsed().as_secs_f64());
+        println!(
+            "  {:15}{:30}{:>18} results {:>6} differ {:>8.1} s",
+            part.name,
+            part.label,
+            grouped(sum.results),
+            grouped(sum.differ),
+            start.elapsed().as_secs_f64()
+        );
         if let Some(first) = sum.first {
             println!("  first difference: {first}");
         }
@@ -99,8 +106,18 @@ fn progress(part: &Part, done: &AtomicU64, results: &AtomicU64) {
             shown = Instant::now();
             let share = done.load(Relaxed) as f64 / part.pieces as f64;
             let left = if share > 0. { format!("{:.0} s left", passed / share - passed) } else { String::new() };
-            let line = format!("  {:15}{:28}{:>18} results {:>5.1} % {left}", part.name, part.label, grouped(results.load(Relaxed)), 100. * share);
-            if terminal { eprint!("\r{line}\x1b[K") } else { eprintln!("{line}") }
+            let line = format!(
+                "  {:15}{:30}{:>18} results {:>5.1} % {left}",
+                part.name,
+                part.label,
+                grouped(results.load(Relaxed)),
+                100. * share
+            );
+            if terminal {
+                eprint!("\r{line}\x1b[K")
+            } else {
+                eprintln!("{line}")
+            }
         }
     }
     if terminal {
@@ -112,7 +129,10 @@ fn progress(part: &Part, done: &AtomicU64, results: &AtomicU64) {
 /// Plants a fault in one drawn result of a drawn piece of each part. Without it nothing may differ, with it
 /// exactly that result.
 fn planted(all: &[Part], seed: u64) -> i32 {
-    println!("compare planted: one bit of one answer of the port is altered in each of {} parts, seed {seed}", all.len());
+    println!(
+        "compare planted: one bit of one answer of the port is altered in each of {} parts, seed {seed}",
+        all.len()
+    );
     let mut caught = 0;
     for (i, part) in all.iter().enumerate() {
         let mut d = Draw::new(seed, "planted", i as u64);
@@ -126,7 +146,7 @@ fn planted(all: &[Part], seed: u64) -> i32 {
         let faulty = run(1 + d.below(clean.results));
         let good = clean.differ == 0 && faulty.differ == 1;
         caught += good as u64;
-        println!("  {:15}{:28} {}", part.name, part.label, if good { "caught" } else { "NOT CAUGHT" });
+        println!("  {:15}{:30} {}", part.name, part.label, if good { "caught" } else { "NOT CAUGHT" });
         println!("    {}", faulty.first.or(clean.first).unwrap_or_default().replace('\n', "\n    "));
     }
     println!("compare: {} faults planted, {caught} caught (planted, seed {seed})", all.len());

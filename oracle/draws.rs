@@ -16,7 +16,11 @@ pub fn operand(f: Format, d: &mut Draw) -> u64 {
         4 => field | d.next() & f.hid() - 1 | (1 << place) - 1,
         _ => field | d.next() << 1 << place & f.hid() - 1 | 1 << place & f.hid() - 1,
     };
-    if d.below(8) == 0 { size ^ f.sign() } else { size & !f.sign() }
+    if d.below(8) == 0 {
+        size ^ f.sign()
+    } else {
+        size & !f.sign()
+    }
 }
 
 /// A word whose root is nearly S or nearly halfway to the next, S of p digits, among them such with ones or
@@ -39,7 +43,11 @@ pub fn near_root(f: Format, d: &mut Draw) -> u64 {
 
 /// An operand of the root.
 pub fn root(f: Format, d: &mut Draw) -> u64 {
-    if d.below(2) == 0 { near_root(f, d) } else { operand(f, d) }
+    if d.below(2) == 0 {
+        near_root(f, d)
+    } else {
+        operand(f, d)
+    }
 }
 
 /// An operand of scaling and its n: any n, one near a step or a clamp, or one that brings the result to the
@@ -48,7 +56,11 @@ pub fn scaling(f: Format, d: &mut Draw) -> (u64, u64) {
     let x = operand(f, d);
     let (p, emax) = (i64::from(f.p), i64::from(f.emax));
     let field = (x & !f.sign()).max(1) / f.hid();
-    let e = if field > 0 { field as i64 - emax } else { (63 - (x & !f.sign()).max(1).leading_zeros()) as i64 + 2 - emax - p };
+    let e = if field > 0 {
+        field as i64 - emax
+    } else {
+        (63 - (x & !f.sign()).max(1).leading_zeros()) as i64 + 2 - emax - p
+    };
     let n = match d.below(5) {
         0 => d.next() as i32 as i64,
         1 => d.within(-2 * emax - p - 9, 2 * emax + p + 9),
@@ -107,7 +119,11 @@ fn base(f: Format, d: &mut Draw) -> u64 {
         0 => d.next(),
         1 | 2 => {
             let units = d.sized(f.p - 1);
-            if d.below(2) == 0 { f.one() + units } else { f.one() - units }
+            if d.below(2) == 0 {
+                f.one() + units
+            } else {
+                f.one() - units
+            }
         }
         3 => {
             let cut = d.of(&if f.p == 24 { [0x1c_c472, 0x5d_b3d7] } else { [0x3_988f_0000_0000, 0xb_b67a_0000_0000] });

@@ -8,11 +8,16 @@ use crate::words::{Format, DOUBLE, SINGLE};
 pub struct Operation {
     pub name: &'static str,
     pub format: Format,
-    pub port: fn(u64, u64) -> Answer,
-    pub sides: &'static [(&'static str, fn(u64, u64) -> u64)],
     /// Whether NaN is compared bit by bit, as for fabs.
     pub bits: bool,
+    pub port: fn(u64, u64) -> Answer,
+    /// The others by name. The root has the processor's instruction as its third.
+    pub sides: &'static [(&'static str, fn(u64, u64) -> u64)],
 }
+
+const WITHOUT: &str = "the original without sse";
+const STANDS: &str = "the original as it stands";
+const PROCESSOR: &str = "the processor";
 
 /// A batch lends the port its operands and, of `memory`, all but GUARD words at each end. It answers what the
 /// port answered and whether the operands are still what they were.
@@ -35,22 +40,6 @@ pub struct Width {
     pub batches: [Batched; 3],
 }
 
-macro_rules! operation {
-    ($format:expr, $name:ident, $bits:expr, $port:expr, |$x:ident, $y:ident| ($($operand:expr),*) $(, $processor:expr)?) => {
-        &Operation {
-            name: stringify!($name),
-            format: $format,
-            port: $port,
-            sides: &[
-                ("the original without sse", |$x, $y| without_sse::$name($($operand),*).to_bits().into()),
-                ("the original as it stands", |$x, $y| as_it_stands::$name($($operand),*).to_bits().into()),
-                $(("the processor", $processor))?
-            ],
-            bits: $bits,
-        }
-    };
-}
-
 macro_rules! batched {
     ($name:ident, $call:ident, $single:expr, $word:ident $(, $second:ty)?) => {
         Batched {
@@ -63,13 +52,22 @@ macro_rules! batched {
                 $(let b = words(ys, |y| y as $second);)?
                 let (out, len) = (m[GUARD..].as_mut_ptr(), m.len() - 2 * GUARD);
                 let answer = unsafe {
-                    face::$call(a.as_ptr(), a.len(), $(b.as_ptr() as *const $second, b.len(),)? out, len)
+                    face::$call(pointer(&a), a.len(), $(pointer::<$second>(&b), b.len(),)? out, len)
                 };
                 memory.copy_from_slice(&words(&m, u64::from));
                 (answer, a == words(xs, |x| x as $word) $(&& b == words(ys, |y| y as $second))?)
             },
         }
     };
+}
+
+/// A slice's pointer; an empty one has none.
+fn pointer<T>(slice: &[T]) -> *const T {
+    if slice.is_empty() {
+        std::ptr::null()
+    } else {
+        slice.as_ptr()
+    }
 }
 
 fn words<A: Copy, B>(list: &[A], to: fn(A) -> B) -> Vec<B> {
@@ -85,26 +83,58 @@ macro_rules! width {
             fn float(x: u64) -> $float {
                 $float::from_bits(x as $word)
             }
-            static FABS: &Operation = operation!($format, $fabs, true,
-                |x, _| plain(unsafe { face::$c_fabs(x as $word) }.into()), |x, _y| (float(x)));
-            static SCALBN: &Operation = operation!($format, $scalbn, false,
-                |x, n| unsafe { face::$c_scalbn(x as $word, n as i32) }, |x, n| (float(x), n as i32));
-            static SQRT: &Operation = operation!($format, $sqrt, false,
-                |x, _| unsafe { face::$c_sqrt(x as $word) }, |x, _y| (float(x)),
-                |x, _| float(x).sqrt().to_bits().into());
-            static POW: &Operation = operation!($format, $pow, false,
-                |x, y| plain(unsafe { face::$c_pow(x as $word, y as $word) }.into()), |x, y| (float(x), float(y)));
+            static FABS: Operation = Operation {
+                name: stringify!($fabs),
+                format: $format,
+                bits: true,
+                port: |x, _| plain(unsafe { face::$c_fabs(x as $word) }.into()),
+                sides: &[
+                    (WITHOUT, |x, _| without_sse::$fabs(float(x)).to_bits().into()),
+                    (STANDS, |x, _| as_it_stands::$fabs(float(x)).to_bits().into()),
+                ],
+            };
+            static SCALBN: Operation = Operation {
+                name: stringify!($scalbn),
+                format: $format,
+                bits: false,
+                port: |x, n| unsafe { face::$c_scalbn(x as $word, n as i32) },
+                sides: &[
+                    (WITHOUT, |x, n| without_sse::$scalbn(float(x), n as i32).to_bits().into()),
+                    (STANDS, |x, n| as_it_stands::$scalbn(float(x), n as i32).to_bits().into()),
+                ],
+            };
+            static SQRT: Operation = Operation {
+                name: stringify!($sqrt),
+                format: $format,
+                bits: false,
+                port: |x, _| unsafe { face::$c_sqrt(x as $word) },
+                sides: &[
+                    (WITHOUT, |x, _| without_sse::$sqrt(float(x)).to_bits().into()),
+                    (STANDS, |x, _| as_it_stands::$sqrt(float(x)).to_bits().into()),
+                    (PROCESSOR, |x, _| float(x).sqrt().to_bits().into()),
+                ],
+            };
+            static POW: Operation = Operation {
+                name: stringify!($pow),
+                format: $format,
+                bits: false,
+                port: |x, y| plain(unsafe { face::$c_pow(x as $word, y as $word) }.into()),
+                sides: &[
+                    (WITHOUT, |x, y| without_sse::$pow(float(x), float(y)).to_bits().into()),
+                    (STANDS, |x, y| as_it_stands::$pow(float(x), float(y)).to_bits().into()),
+                ],
+            };
             Width {
-                fabs: FABS,
-                scalbn: SCALBN,
-                sqrt: SQRT,
-                pow: POW,
+                fabs: &FABS,
+                scalbn: &SCALBN,
+                sqrt: &SQRT,
+                pow: &POW,
                 partial: (stringify!($partial), |x, rounds| unsafe { face::$c_partial(x as $word, rounds) }),
                 sort: (stringify!($sort), |x, y| unsafe { face::$c_sort(x as $word, y as $word) }),
                 batches: [
-                    batched!($sqrts, $c_sqrts, SQRT, $word),
-                    batched!($scalbns, $c_scalbns, SCALBN, $word, i32),
-                    batched!($pows, $c_pows, POW, $word, $word),
+                    batched!($sqrts, $c_sqrts, &SQRT, $word),
+                    batched!($scalbns, $c_scalbns, &SCALBN, $word, i32),
+                    batched!($pows, $c_pows, &POW, $word, $word),
                 ],
             }
         };

@@ -33,14 +33,18 @@ pub fn parts(scale: Scale) -> Vec<Part> {
         let single = f.p == 24;
         for (op, quick) in [(w.fabs, 24), (w.sqrt, 24)] {
             listing(&mut all, scale, op.name, "listed words", listed(f), vec![0], 1, move |x, _, t| t.single(op, x, 0));
-            drawing(&mut all, scale, op.name, quick, if single { 24 } else { 30 }, move |d, t| t.single(op, draws::root(f, d), 0));
+            drawing(&mut all, scale, op.name, quick, if single { 24 } else { 30 }, move |d, t| {
+                t.single(op, draws::root(f, d), 0)
+            });
             if single && scale.full {
                 every(&mut all, op, 0, "every word".into());
             }
         }
         let sparse = if scale.full || single { 1 } else { 32 };
         let ns = steps(f).into_iter().map(|n| u64::from(n as u32)).collect();
-        listing(&mut all, scale, w.scalbn.name, "listed words, each n", listed(f), ns, sparse, |x, n, t| t.single(w.scalbn, x, n));
+        listing(&mut all, scale, w.scalbn.name, "listed words, each n", listed(f), ns, sparse, |x, n, t| {
+            t.single(w.scalbn, x, n)
+        });
         drawing(&mut all, scale, w.scalbn.name, 25, 30, move |d, t| {
             let (x, n) = draws::scaling(f, d);
             t.single(w.scalbn, x, n)
@@ -52,7 +56,9 @@ pub fn parts(scale: Scale) -> Vec<Part> {
         }
         powers(&mut all, scale, w);
         let ks = (0..f.p + 5).chain([64, 1 << 31, u32::MAX]).map(u64::from).collect();
-        listing(&mut all, scale, w.partial.0, "listed words, each k", listed(f), ks, sparse, |x, k, t| t.partial(w, x, k as u32));
+        listing(&mut all, scale, w.partial.0, "listed words, each k", listed(f), ks, sparse, |x, k, t| {
+            t.partial(w, x, k as u32)
+        });
         drawing(&mut all, scale, w.partial.0, 23, 28, move |d, t| {
             let k = if d.below(16) == 0 { d.next() as u32 } else { d.below(u64::from(f.p) + 4) as u32 };
             t.partial(w, draws::root(f, d), k)
@@ -70,7 +76,9 @@ fn powers(all: &mut Vec<Part>, scale: Scale, w: &'static Width) {
     let sparse = if scale.full || f.p == 24 { 1 } else { 32 };
     let (edges, crossed) = (thresholds(f), "thresholds crossed");
     listing(all, scale, w.pow.name, crossed, edges.clone(), edges.clone(), 1, |x, y, t| t.single(w.pow, x, y));
-    listing(all, scale, w.pow.name, "exponents crossed", fields.clone(), fields, sparse, |x, y, t| t.single(w.pow, x, y));
+    listing(all, scale, w.pow.name, "exponents crossed", fields.clone(), fields, sparse, |x, y, t| {
+        t.single(w.pow, x, y)
+    });
     drawing(all, scale, w.pow.name, 25, 30, move |d, t| {
         let (x, y) = draws::power(f, d);
         t.single(w.pow, x, y)
@@ -110,8 +118,16 @@ fn batches(all: &mut Vec<Part>, scale: Scale, w: &'static Width) {
 }
 
 /// Each x of a list with each y of another, or one drawn pair of every `sparse` of them.
-fn listing(all: &mut Vec<Part>, scale: Scale, name: &'static str, label: &str, xs: Vec<u64>, ys: Vec<u64>, sparse: u64,
-    each: impl Fn(u64, u64, &mut Tally) + Sync + 'static) {
+fn listing(
+    all: &mut Vec<Part>,
+    scale: Scale,
+    name: &'static str,
+    label: &str,
+    xs: Vec<u64>,
+    ys: Vec<u64>,
+    sparse: u64,
+    each: impl Fn(u64, u64, &mut Tally) + Sync + 'static,
+) {
     let pairs = xs.len() as u64 * ys.len() as u64;
     let label = if sparse == 1 { label.into() } else { format!("{label}, 1 in {sparse}") };
     all.push(Part {
@@ -131,8 +147,14 @@ fn listing(all: &mut Vec<Part>, scale: Scale, name: &'static str, label: &str, x
 }
 
 /// 2^quick drawn operands, or 2^full.
-fn drawing(all: &mut Vec<Part>, scale: Scale, name: &'static str, quick: u32, full: u32,
-    each: impl Fn(&mut Draw, &mut Tally) + Sync + 'static) {
+fn drawing(
+    all: &mut Vec<Part>,
+    scale: Scale,
+    name: &'static str,
+    quick: u32,
+    full: u32,
+    each: impl Fn(&mut Draw, &mut Tally) + Sync + 'static,
+) {
     let bits = if scale.full { full } else { quick };
     all.push(Part {
         name,

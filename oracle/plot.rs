@@ -44,7 +44,12 @@ pub fn svg(timed: &[Timed]) -> String {
     for (i, row) in timed.iter().enumerate() {
         let y = TOP + STEP * (i as f64 + 0.5);
         if i % 2 == 0 {
-            let _ = writeln!(s, "<rect x=\"8\" y=\"{:.1}\" width=\"{:.0}\" height=\"{STEP}\" fill=\"#000\" opacity=\"0.04\"/>", y - STEP / 2., LEFT + WIDE + 134.);
+            let _ = writeln!(
+                s,
+                "<rect x=\"8\" y=\"{:.1}\" width=\"{:.0}\" height=\"{STEP}\" fill=\"#000\" opacity=\"0.04\"/>",
+                y - STEP / 2.,
+                LEFT + WIDE + 134.
+            );
         }
         text(&mut s, 16., y + 4., "start", "#000", row.call);
         text(&mut s, LEFT - 14., y + 4., "end", "#555", row.operands);
@@ -73,6 +78,10 @@ fn mark(s: &mut String, side: usize, x: f64, y: f64) {
         _ => "M-7 0A7 7 0 1 0 7 0A7 7 0 1 0 -7 0Z",
     };
     let (colour, filled) = (COLOURS[side], if side == 3 { 0. } else { 0.85 });
-    let _ = writeln!(s, "<path transform=\"translate({x:.1} {y:.1})\" d=\"{shape}\" fill=\"{colour}\" fill-opacity=\"{filled}\" \
-        stroke=\"{colour}\" stroke-width=\"{}\"/>", if side == 3 { 2.5 } else { 0. });
+    let _ = writeln!(
+        s,
+        "<path transform=\"translate({x:.1} {y:.1})\" d=\"{shape}\" fill=\"{colour}\" fill-opacity=\"{filled}\" \
+        stroke=\"{colour}\" stroke-width=\"{}\"/>",
+        if side == 3 { 2.5 } else { 0. }
+    );
 }

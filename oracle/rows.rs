@@ -21,7 +21,10 @@ pub struct Row {
 }
 
 /// One call for each pair of operands.
-fn each<X: Copy + 'static, Y: Copy + 'static>(pairs: &[(X, Y)], call: impl Fn(X, Y) -> X + 'static) -> Box<dyn FnMut()> {
+fn each<X: Copy + 'static, Y: Copy + 'static>(
+    pairs: &[(X, Y)],
+    call: impl Fn(X, Y) -> X + 'static,
+) -> Box<dyn FnMut()> {
     let pairs = pairs.to_vec();
     Box::new(move || {
         for &(x, y) in black_box(&pairs) {
@@ -31,7 +34,10 @@ fn each<X: Copy + 'static, Y: Copy + 'static>(pairs: &[(X, Y)], call: impl Fn(X,
 }
 
 /// All operands at once into a result slice.
-fn whole<X: Copy + Default + 'static, Y: Copy + 'static>(pairs: &[(X, Y)], run: impl Fn(&[X], &[Y], &mut [X]) + 'static) -> Box<dyn FnMut()> {
+fn whole<X: Copy + Default + 'static, Y: Copy + 'static>(
+    pairs: &[(X, Y)],
+    run: impl Fn(&[X], &[Y], &mut [X]) + 'static,
+) -> Box<dyn FnMut()> {
     let (xs, ys): (Vec<X>, Vec<Y>) = pairs.iter().copied().unzip();
     let mut out = vec![X::default(); xs.len()];
     Box::new(move || {
@@ -74,54 +80,90 @@ macro_rules! width {
         let library = black_box(c::$c_sqrt as unsafe extern "C" fn($float) -> $float);
         for (operands, target, pairs) in roots($f) {
             let pairs: Vec<_> = pairs.iter().map(|&x| (x as $word, ())).collect();
-            $rows.push(Row { call: stringify!($sqrt), operands, target, sides: [
-                each(&pairs, move |x, ()| without(float(x)).to_bits()),
-                each(&pairs, move |x, ()| stands(float(x)).to_bits()),
-                each(&pairs, move |x, ()| unsafe { library(float(x)) }.to_bits()),
-                each(&pairs, |x, ()| unsafe { face::$p_sqrt(x) }.word as $word),
-            ] });
-            $rows.push(Row { call: stringify!($sqrts), operands, target, sides: [
-                whole(&pairs, looped(move |x, ()| without_sse::$sqrt(float(x)).to_bits())),
-                whole(&pairs, looped(move |x, ()| as_it_stands::$sqrt(float(x)).to_bits())),
-                whole(&pairs, looped(move |x, ()| unsafe { library(float(x)) }.to_bits())),
-                whole(&pairs, |xs, _, out| done(unsafe { face::$p_sqrts(xs.as_ptr(), PASS, out.as_mut_ptr(), PASS) })),
-            ] });
+            $rows.push(Row {
+                call: stringify!($sqrt),
+                operands,
+                target,
+                sides: [
+                    each(&pairs, move |x, ()| without(float(x)).to_bits()),
+                    each(&pairs, move |x, ()| stands(float(x)).to_bits()),
+                    each(&pairs, move |x, ()| unsafe { library(float(x)) }.to_bits()),
+                    each(&pairs, |x, ()| unsafe { face::$p_sqrt(x) }.word as $word),
+                ],
+            });
+            $rows.push(Row {
+                call: stringify!($sqrts),
+                operands,
+                target,
+                sides: [
+                    whole(&pairs, looped(move |x, ()| without_sse::$sqrt(float(x)).to_bits())),
+                    whole(&pairs, looped(move |x, ()| as_it_stands::$sqrt(float(x)).to_bits())),
+                    whole(&pairs, looped(move |x, ()| unsafe { library(float(x)) }.to_bits())),
+                    whole(&pairs, |xs, _, out| {
+                        done(unsafe { face::$p_sqrts(xs.as_ptr(), PASS, out.as_mut_ptr(), PASS) })
+                    }),
+                ],
+            });
         }
 
         let (without, stands) = black_box((without_sse::$scalbn as Scaling, as_it_stands::$scalbn as Scaling));
         let library = black_box(c::$c_scalbn as unsafe extern "C" fn($float, i32) -> $float);
         for (operands, target, pairs) in scalings($f) {
             let pairs: Vec<_> = pairs.iter().map(|&(x, n)| (x as $word, n)).collect();
-            $rows.push(Row { call: stringify!($scalbn), operands, target, sides: [
-                each(&pairs, move |x, n| without(float(x), n).to_bits()),
-                each(&pairs, move |x, n| stands(float(x), n).to_bits()),
-                each(&pairs, move |x, n| unsafe { library(float(x), n) }.to_bits()),
-                each(&pairs, |x, n| unsafe { face::$p_scalbn(x, n) }.word as $word),
-            ] });
-            $rows.push(Row { call: stringify!($scalbns), operands, target, sides: [
-                whole(&pairs, looped(move |x, n| without_sse::$scalbn(float(x), n).to_bits())),
-                whole(&pairs, looped(move |x, n| as_it_stands::$scalbn(float(x), n).to_bits())),
-                whole(&pairs, looped(move |x, n| unsafe { library(float(x), n) }.to_bits())),
-                whole(&pairs, |xs, ns, out| done(unsafe { face::$p_scalbns(xs.as_ptr(), PASS, ns.as_ptr(), PASS, out.as_mut_ptr(), PASS) })),
-            ] });
+            $rows.push(Row {
+                call: stringify!($scalbn),
+                operands,
+                target,
+                sides: [
+                    each(&pairs, move |x, n| without(float(x), n).to_bits()),
+                    each(&pairs, move |x, n| stands(float(x), n).to_bits()),
+                    each(&pairs, move |x, n| unsafe { library(float(x), n) }.to_bits()),
+                    each(&pairs, |x, n| unsafe { face::$p_scalbn(x, n) }.word as $word),
+                ],
+            });
+            $rows.push(Row {
+                call: stringify!($scalbns),
+                operands,
+                target,
+                sides: [
+                    whole(&pairs, looped(move |x, n| without_sse::$scalbn(float(x), n).to_bits())),
+                    whole(&pairs, looped(move |x, n| as_it_stands::$scalbn(float(x), n).to_bits())),
+                    whole(&pairs, looped(move |x, n| unsafe { library(float(x), n) }.to_bits())),
+                    whole(&pairs, |xs, ns, out| {
+                        done(unsafe { face::$p_scalbns(xs.as_ptr(), PASS, ns.as_ptr(), PASS, out.as_mut_ptr(), PASS) })
+                    }),
+                ],
+            });
         }
 
         let (without, stands) = black_box((without_sse::$pow as Power, as_it_stands::$pow as Power));
         let library = black_box(c::$c_pow as unsafe extern "C" fn($float, $float) -> $float);
         for (operands, target, pairs) in powers($f) {
             let pairs: Vec<_> = pairs.iter().map(|&(x, y)| (x as $word, y as $word)).collect();
-            $rows.push(Row { call: stringify!($pow), operands, target, sides: [
-                each(&pairs, move |x, y| without(float(x), float(y)).to_bits()),
-                each(&pairs, move |x, y| stands(float(x), float(y)).to_bits()),
-                each(&pairs, move |x, y| unsafe { library(float(x), float(y)) }.to_bits()),
-                each(&pairs, |x, y| unsafe { face::$p_pow(x, y) }),
-            ] });
-            $rows.push(Row { call: stringify!($pows), operands, target, sides: [
-                whole(&pairs, looped(move |x, y| without_sse::$pow(float(x), float(y)).to_bits())),
-                whole(&pairs, looped(move |x, y| as_it_stands::$pow(float(x), float(y)).to_bits())),
-                whole(&pairs, looped(move |x, y| unsafe { library(float(x), float(y)) }.to_bits())),
-                whole(&pairs, |xs, ys, out| done(unsafe { face::$p_pows(xs.as_ptr(), PASS, ys.as_ptr(), PASS, out.as_mut_ptr(), PASS) })),
-            ] });
+            $rows.push(Row {
+                call: stringify!($pow),
+                operands,
+                target,
+                sides: [
+                    each(&pairs, move |x, y| without(float(x), float(y)).to_bits()),
+                    each(&pairs, move |x, y| stands(float(x), float(y)).to_bits()),
+                    each(&pairs, move |x, y| unsafe { library(float(x), float(y)) }.to_bits()),
+                    each(&pairs, |x, y| unsafe { face::$p_pow(x, y) }),
+                ],
+            });
+            $rows.push(Row {
+                call: stringify!($pows),
+                operands,
+                target,
+                sides: [
+                    whole(&pairs, looped(move |x, y| without_sse::$pow(float(x), float(y)).to_bits())),
+                    whole(&pairs, looped(move |x, y| as_it_stands::$pow(float(x), float(y)).to_bits())),
+                    whole(&pairs, looped(move |x, y| unsafe { library(float(x), float(y)) }.to_bits())),
+                    whole(&pairs, |xs, ys, out| {
+                        done(unsafe { face::$p_pows(xs.as_ptr(), PASS, ys.as_ptr(), PASS, out.as_mut_ptr(), PASS) })
+                    }),
+                ],
+            });
         }
     };
 }

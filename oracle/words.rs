@@ -34,11 +34,19 @@ impl Format {
         (e + self.emax) as u64 * self.hid()
     }
     pub fn value(self, word: u64) -> f64 {
-        if self.p == 24 { f32::from_bits(word as u32).into() } else { f64::from_bits(word) }
+        if self.p == 24 {
+            f32::from_bits(word as u32).into()
+        } else {
+            f64::from_bits(word)
+        }
     }
     /// The word nearest to a value.
     pub fn word(self, value: f64) -> u64 {
-        if self.p == 24 { (value as f32).to_bits().into() } else { value.to_bits() }
+        if self.p == 24 {
+            (value as f32).to_bits().into()
+        } else {
+            value.to_bits()
+        }
     }
     /// A word brought into the format by dropping what does not fit.
     pub fn fit(self, word: u64) -> u64 {

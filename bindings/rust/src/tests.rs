@@ -14,8 +14,14 @@ fn f(x: f32) -> u32 {
 
 #[test]
 fn roots() {
-    let values =
-        [(1, 0x1a35_04f3), (0x4000_0000, 0x3fb5_04f3), (0x7f7f_ffff, 0x5f7f_ffff), (MINUS, MINUS), (MINUS | 1, NAN_F), (INF, INF)];
+    let values = [
+        (1, 0x1a35_04f3),
+        (0x4000_0000, 0x3fb5_04f3),
+        (0x7f7f_ffff, 0x5f7f_ffff),
+        (MINUS, MINUS),
+        (MINUS | 1, NAN_F),
+        (INF, INF),
+    ];
     for (x, root) in values {
         assert_eq!(sqrtf(x), root);
     }
