@@ -127,8 +127,9 @@ fn base(f: Format, d: &mut Draw) -> u64 {
         }
         3 => {
             let cut = d.of(&if f.p == 24 { [0x1c_c472, 0x5d_b3d7] } else { [0x3_988f_0000_0000, 0xb_b67a_0000_0000] });
-            let field = d.below(2 * f.emax as u64 + 1);
-            d.near(f, field * f.hid() + cut, 3)
+            // Near 1 the two intervals differ in more of the digits that decide.
+            let e = if d.below(4) == 0 { d.within(1 - f.emax as i64, f.emax as i64) } else { d.within(-2, 2) };
+            d.near(f, f.power(e as i32) + cut, 1)
         }
         4 => d.sized(f.p - 1),
         5 | 6 => f.power(d.within(-9, 9) as i32) + (d.next() & f.hid() - 1),
