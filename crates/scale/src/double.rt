@@ -60,10 +60,7 @@ fn far64(x: f64, n: i32) -> f64
 pub fn scale64(x: f64, n: i32) -> f64
     ensures { λ r. ⌜ r ≡ Ieee.mul Ieee.binary64 x (power n) ⌝ }
 {
-    if n > 1023 {
-        return far64(x, n);
-    }
-    if n < -1022 {
+    if n > 1023 || n < -1022 {
         return far64(x, n);
     }
     x * power64(n)

@@ -60,10 +60,7 @@ fn far32(x: f32, n: i32) -> f32
 pub fn scale32(x: f32, n: i32) -> f32
     ensures { λ r. ⌜ r ≡ Ieee.mul Ieee.binary32 x (power n) ⌝ }
 {
-    if n > 127 {
-        return far32(x, n);
-    }
-    if n < -126 {
+    if n > 127 || n < -126 {
         return far32(x, n);
     }
     x * power32(n)

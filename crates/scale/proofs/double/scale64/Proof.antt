@@ -20,7 +20,5 @@ scale64-spec =
     (tie.spec
     (λ c κs. search needs)
     (λ c. c .far64 .ensures ∙ back (c .before .before))
-    (λ c κs. search needs)
-    (λ c. c .far642 .ensures ∙ back (c .before .before .before))
     (λ c κs. let s = c .before .before in near-normal binary64 w32 (s .args .n) (s .fits .n) (c .before .if1 .left) (c .if2 .left))
     (λ c. let s = c .before .before .before in ap (λ (p : Float). mul binary64 (s .args .x) p) (c .power64 .ensures) ∙ back s))

@@ -20,7 +20,5 @@ scale32-spec =
     (tie.spec
     (λ c κs. search needs)
     (λ c. c .far32 .ensures ∙ back (c .before .before))
-    (λ c κs. search needs)
-    (λ c. c .far322 .ensures ∙ back (c .before .before .before))
     (λ c κs. let s = c .before .before in near-normal binary32 w32 (s .args .n) (s .fits .n) (c .before .if1 .left) (c .if2 .left))
     (λ c. let s = c .before .before .before in ap (λ (p : Float). mul binary32 (s .args .x) p) (c .power32 .ensures) ∙ back s))
