@@ -1,0 +1,46 @@
+-- `batch::single::scalbnf_batch` meets its contract, by the laws of batches. Assumes nothing.
+use Prim.Native.Nat.{_-_}
+use native.Mathlib.Omega.{arith}
+use borrow.Author.Needs.{needs, sfits-of}
+use lib.ListN.{length}
+use lib.IntN.{pos}
+use mir.ValLaws.{toZ-ofZ}
+use Rattle.words.specs.Format.{binary32}
+use Rattle.scale.specs.Scale.{scaled}
+use Rattle.batch.proofs.Answers.{refused}
+use Rattle.batch.proofs.Progress.{Pairs, start2, step2, done2}
+use Rattle.batch.proofs.single.scalbnf_batch.Statement.{statement}
+use Rattle.batch.proofs.single.scalbnf_batch.Tie as tie
+
+abbrev Inv-loop : tie.InvT-loop
+Inv-loop xs ns out₀ same number i₀ out i = Pairs (scaled binary32) xs ns out₀ i out
+
+abbrev μ-loop : tie.MeasureT-loop
+μ-loop xs ns out₀ same number i₀ out i = length out₀ - i
+
+loop-again : tie.Need-loop-again Inv-loop μ-loop
+loop-again c =
+    step2 (c .before .before .before .before .loop .inv) 0 (pos 0) (omega arith)
+    (simp (toZ-ofZ, sfits-of, c .before .scaled32-arg .given) at (c .scaled32 .ensures))
+
+pub scalbnf-batch-spec : {M : Type 1} → statement M
+scalbnf-batch-spec =
+    tie.close
+    (tie.spec
+    Inv-loop
+    μ-loop
+    (λ c κs. search needs)
+    (λ c. refused (c .before .refusal-of .ensures) (c .if1 .taken))
+    (λ c. start2 (c .before .refusal-of .ensures) (c .if1 .left))
+    (λ c. search needs)
+    (λ c. search needs)
+    (λ c. search needs)
+    (λ c. search needs)
+    (λ c κs. search needs)
+    (λ c. search needs)
+    (λ c. search needs)
+    (λ c. search needs)
+    (λ c. search needs)
+    loop-again
+    (λ c. search needs)
+    (λ c. done2 (c .before .loop .inv) (omega arith)))

@@ -1,0 +1,40 @@
+-- `batch::single::sqrtf_batch` meets its contract, by the laws of batches. Assumes nothing.
+use Prim.Native.Nat.{_-_}
+use native.Mathlib.Omega.{arith}
+use borrow.Author.Needs.{needs}
+use lib.ListN.{length}
+use Rattle.words.specs.Format.{binary32}
+use Rattle.root.specs.Root.{rootWord}
+use Rattle.batch.proofs.Answers.{refused}
+use Rattle.batch.proofs.Progress.{Each, start, step, done}
+use Rattle.batch.proofs.single.sqrtf_batch.Statement.{statement}
+use Rattle.batch.proofs.single.sqrtf_batch.Tie as tie
+
+abbrev Inv-loop : tie.InvT-loop
+Inv-loop xs out₀ number i₀ out i = Each (rootWord binary32) xs out₀ i out
+
+abbrev μ-loop : tie.MeasureT-loop
+μ-loop xs out₀ number i₀ out i = length out₀ - i
+
+loop-again : tie.Need-loop-again Inv-loop μ-loop
+loop-again c = step (c .before .before .before .loop .inv) 0 (omega arith) (c .root32 .ensures)
+
+pub sqrtf-batch-spec : {M : Type 1} → statement M
+sqrtf-batch-spec =
+    tie.close
+    (tie.spec
+    Inv-loop
+    μ-loop
+    (λ c κs. search needs)
+    (λ c. refused (c .before .refusal-of .ensures) (c .if1 .taken))
+    (λ c. start (c .before .refusal-of .ensures) (c .if1 .left))
+    (λ c. search needs)
+    (λ c. search needs)
+    (λ c κs. search needs)
+    (λ c. search needs)
+    (λ c. search needs)
+    (λ c. search needs)
+    (λ c. search needs)
+    loop-again
+    (λ c. search needs)
+    (λ c. done (c .before .loop .inv) (omega arith)))
