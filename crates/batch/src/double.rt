@@ -4,6 +4,7 @@ ghost use Rattle.root.specs.Root.{rootWord};
 ghost use Rattle.scale.specs.Scale.{scaled};
 ghost use Rattle.batch.specs.Batches.{Mapped, Zipped};
 use super::outcome::Batch;
+use super::outcome::answer_of;
 use super::outcome::refusal_of;
 use root::double::root64;
 use scale::double::scaled64;
@@ -15,35 +16,30 @@ pub fn sqrtd_batch(xs: &[u64], out: &mut [u64]) -> Batch
 {
     let number = refusal_of(xs.len() == out.len(), out.len());
     if number != DONE {
-        return Batch { number, count: 0 };
+        return answer_of(number, out.len());
     }
     let mut i = 0;
     while i < out.len() {
         out[i] = root64(xs[i]);
         i += 1;
     }
-    Batch {
-        number: DONE,
-        count: i,
-    }
+    answer_of(number, out.len())
 }
 
 // Each word of xs times 2 to the power of the number beside it.
 pub fn scalbnd_batch(xs: &[u64], ns: &[i32], out: &mut [u64]) -> Batch
     ensures { λ r. ⌜ Zipped (scaled binary64) (now (xs .entry)) (now (ns .entry)) (now (out .entry)) (now (out .exit)) r ⌝ }
 {
-    let same = (xs.len() == out.len()) & (ns.len() == out.len());
-    let number = refusal_of(same, out.len());
+    let n = out.len();
+    let same = (xs.len() == n) & (ns.len() == n);
+    let number = refusal_of(same, n);
     if number != DONE {
-        return Batch { number, count: 0 };
+        return answer_of(number, n);
     }
     let mut i = 0;
-    while i < out.len() {
+    while i < n {
         out[i] = scaled64(xs[i], ns[i]);
         i += 1;
     }
-    Batch {
-        number: DONE,
-        count: i,
-    }
+    answer_of(number, n)
 }

@@ -1,6 +1,6 @@
 // What a batch answers, and when it refuses: document 01, "Refusal numbers".
 ghost use mathlib.Core.Path.{_≡_};
-ghost use Rattle.batch.specs.Batches.{refusal};
+ghost use Rattle.batch.specs.Batches.{refusal, answered};
 use words::refusal::DONE;
 use words::refusal::LENGTHS_DIFFER;
 use words::refusal::TOO_LONG;
@@ -24,4 +24,14 @@ pub fn refusal_of(same: bool, n: usize) -> u32
     } else {
         LENGTHS_DIFFER
     }
+}
+
+// The answer of a batch of n results: all of them are counted, or none.
+pub fn answer_of(number: u32, n: usize) -> Batch
+    ensures { λ r. ⌜ r ≡ answered number n ⌝ }
+{
+    if number == DONE {
+        return Batch { number, count: n };
+    }
+    Batch { number, count: 0 }
 }

@@ -13,10 +13,10 @@ use Rattle.batch.proofs.double.scalbnd_batch.Statement.{statement}
 use Rattle.batch.proofs.double.scalbnd_batch.Tie as tie
 
 abbrev Inv-loop : tie.InvT-loop
-Inv-loop xs ns out₀ same number i₀ out i = Pairs (scaled binary64) xs ns out₀ i out
+Inv-loop xs ns out₀ n same number i₀ out i = Pairs (scaled binary64) xs ns out₀ number i out
 
 abbrev μ-loop : tie.MeasureT-loop
-μ-loop xs ns out₀ same number i₀ out i = length out₀ - i
+μ-loop xs ns out₀ n same number i₀ out i = length out₀ - i
 
 loop-again : tie.Need-loop-again Inv-loop μ-loop
 loop-again c =
@@ -30,7 +30,8 @@ scalbnd-batch-spec =
     Inv-loop
     μ-loop
     (λ c κs. search needs)
-    (λ c. refused (c .before .refusal-of .ensures) (c .if1 .taken))
+    (λ c κs. search needs)
+    (λ c. refused (c .before .before .refusal-of .ensures) (c .before .if1 .taken) (c .answer-of .ensures))
     (λ c. start2 (c .before .refusal-of .ensures) (c .if1 .left))
     (λ c. search needs)
     (λ c. search needs)
@@ -42,5 +43,6 @@ scalbnd-batch-spec =
     (λ c. search needs)
     (λ c. search needs)
     loop-again
+    (λ c κs. search needs)
     (λ c. search needs)
-    (λ c. done2 (c .before .loop .inv) (omega arith)))
+    (λ c. done2 (c .before .before .loop .inv) (omega arith) (c .answer-of2 .ensures)))

@@ -11,7 +11,7 @@ use Rattle.batch.proofs.single.sqrtf_batch.Statement.{statement}
 use Rattle.batch.proofs.single.sqrtf_batch.Tie as tie
 
 abbrev Inv-loop : tie.InvT-loop
-Inv-loop xs out₀ number i₀ out i = Each (rootWord binary32) xs out₀ i out
+Inv-loop xs out₀ number i₀ out i = Each (rootWord binary32) xs out₀ number i out
 
 abbrev μ-loop : tie.MeasureT-loop
 μ-loop xs out₀ number i₀ out i = length out₀ - i
@@ -26,7 +26,8 @@ sqrtf-batch-spec =
     Inv-loop
     μ-loop
     (λ c κs. search needs)
-    (λ c. refused (c .before .refusal-of .ensures) (c .if1 .taken))
+    (λ c κs. search needs)
+    (λ c. refused (c .before .before .refusal-of .ensures) (c .before .if1 .taken) (c .answer-of .ensures))
     (λ c. start (c .before .refusal-of .ensures) (c .if1 .left))
     (λ c. search needs)
     (λ c. search needs)
@@ -36,5 +37,6 @@ sqrtf-batch-spec =
     (λ c. search needs)
     (λ c. search needs)
     loop-again
+    (λ c κs. search needs)
     (λ c. search needs)
-    (λ c. done (c .before .loop .inv) (omega arith)))
+    (λ c. let p = c .before .before .loop .inv in done p (omega arith) (rw (p .progress .kept) at (c .answer-of2 .ensures))))
