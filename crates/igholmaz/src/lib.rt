@@ -6,6 +6,8 @@ ghost use Rattle.words.specs.Answers.{answered};
 ghost use Rattle.root.specs.Root.{rootWord};
 ghost use Rattle.root.specs.Partial.{partialRoot};
 ghost use Rattle.scale.specs.Scale.{scaled};
+ghost use Rattle.batch.specs.Batches.{Mapped, Zipped};
+use batch::outcome::Batch;
 use root::partial::PartialRoot;
 use words::answer::Answer;
 
@@ -63,4 +65,32 @@ pub extern "C" fn igholmaz_partial_sqrtd(x: u64, rounds: u32) -> PartialRoot
     ensures { λ r. ⌜ r ≡ partialRoot binary64 x rounds ⌝ }
 {
     root::double::partial_sqrtd(x, rounds)
+}
+
+#[no_mangle]
+pub extern "C" fn igholmaz_sqrtf_batch(xs: &[u32], out: &mut [u32]) -> Batch
+    ensures { λ r. ⌜ Mapped (rootWord binary32) (now (xs .entry)) (now (out .entry)) (now (out .exit)) r ⌝ }
+{
+    batch::single::sqrtf_batch(xs, out)
+}
+
+#[no_mangle]
+pub extern "C" fn igholmaz_sqrtd_batch(xs: &[u64], out: &mut [u64]) -> Batch
+    ensures { λ r. ⌜ Mapped (rootWord binary64) (now (xs .entry)) (now (out .entry)) (now (out .exit)) r ⌝ }
+{
+    batch::double::sqrtd_batch(xs, out)
+}
+
+#[no_mangle]
+pub extern "C" fn igholmaz_scalbnf_batch(xs: &[u32], ns: &[i32], out: &mut [u32]) -> Batch
+    ensures { λ r. ⌜ Zipped (scaled binary32) (now (xs .entry)) (now (ns .entry)) (now (out .entry)) (now (out .exit)) r ⌝ }
+{
+    batch::single::scalbnf_batch(xs, ns, out)
+}
+
+#[no_mangle]
+pub extern "C" fn igholmaz_scalbnd_batch(xs: &[u64], ns: &[i32], out: &mut [u64]) -> Batch
+    ensures { λ r. ⌜ Zipped (scaled binary64) (now (xs .entry)) (now (ns .entry)) (now (out .entry)) (now (out .exit)) r ⌝ }
+{
+    batch::double::scalbnd_batch(xs, ns, out)
 }
