@@ -1,3 +1,4 @@
 pub mod Values
 pub mod Rounds
 pub mod Operations
+pub mod Agreement

@@ -1,0 +1,62 @@
+-- Any two programs that meet a contract agree in every bit and in every element of a result slice: for each public function and batch. Assumes nothing.
+-- A contract that is an equation with a definition fixes its answer; a batch's fixes its answer and all that its results hold.
+use Prim.Native.Nat.{ℕ}
+use mathlib.Core.Path.{_≡_, sym, _∙_}
+use mathlib.Core.List.{List}
+use lib.IntN.{ℤ}
+use Rattle.words.specs.Format.{binary32, binary64, magnitude}
+use Rattle.words.specs.Answers.{answered}
+use Rattle.words.specs.declared.answer.Answer.{Answer}
+use Rattle.root.specs.Root.{rootWord}
+use Rattle.root.specs.Partial.{partialRoot}
+use Rattle.root.specs.declared.partial.PartialRoot.{PartialRoot}
+use Rattle.scale.specs.Scale.{scaled}
+use Rattle.batch.specs.Batches.{Mapped, Zipped}
+use Rattle.batch.specs.declared.outcome.Batch.{Batch}
+use Rattle.batch.proofs.Answers.{unique}
+
+same : {A : Type 0} {a r s : A} → r ≡ a → s ≡ a → r ≡ s
+same p q = p ∙ sym q
+
+-- ---- single calls
+
+pub fabsf-agrees : (x r s : ℕ) → r ≡ magnitude binary32 x → s ≡ magnitude binary32 x → r ≡ s
+fabsf-agrees x r s = same
+
+pub fabsd-agrees : (x r s : ℕ) → r ≡ magnitude binary64 x → s ≡ magnitude binary64 x → r ≡ s
+fabsd-agrees x r s = same
+
+pub scalbnf-agrees : (x : ℕ) (n : ℤ) (r s : Answer) → r ≡ answered (scaled binary32 x n) → s ≡ answered (scaled binary32 x n) → r ≡ s
+scalbnf-agrees x n r s = same
+
+pub scalbnd-agrees : (x : ℕ) (n : ℤ) (r s : Answer) → r ≡ answered (scaled binary64 x n) → s ≡ answered (scaled binary64 x n) → r ≡ s
+scalbnd-agrees x n r s = same
+
+pub sqrtf-agrees : (x : ℕ) (r s : Answer) → r ≡ answered (rootWord binary32 x) → s ≡ answered (rootWord binary32 x) → r ≡ s
+sqrtf-agrees x r s = same
+
+pub sqrtd-agrees : (x : ℕ) (r s : Answer) → r ≡ answered (rootWord binary64 x) → s ≡ answered (rootWord binary64 x) → r ≡ s
+sqrtd-agrees x r s = same
+
+pub partial-sqrtf-agrees : (x k : ℕ) (r s : PartialRoot) → r ≡ partialRoot binary32 x k → s ≡ partialRoot binary32 x k → r ≡ s
+partial-sqrtf-agrees x k r s = same
+
+pub partial-sqrtd-agrees : (x k : ℕ) (r s : PartialRoot) → r ≡ partialRoot binary64 x k → s ≡ partialRoot binary64 x k → r ≡ s
+partial-sqrtd-agrees x k r s = same
+
+-- ---- batches, of each function at the elements: the answer, and all that the results hold
+
+abbrev Agree : (List ℕ → Batch → Type 0) → Type 0
+Agree Met = (after after' : List ℕ) (r s : Batch) → Met after r → Met after' s → (r ≡ s) × (after ≡ after')
+
+pub sqrtf-batch-agrees : (xs before : List ℕ) → Agree (Mapped (rootWord binary32) xs before)
+sqrtf-batch-agrees xs before after after' r s p q = unique p q
+
+pub sqrtd-batch-agrees : (xs before : List ℕ) → Agree (Mapped (rootWord binary64) xs before)
+sqrtd-batch-agrees xs before after after' r s p q = unique p q
+
+pub scalbnf-batch-agrees : (xs : List ℕ) (ns : List ℤ) (before : List ℕ) → Agree (Zipped (scaled binary32) xs ns before)
+scalbnf-batch-agrees xs ns before after after' r s p q = unique p q
+
+pub scalbnd-batch-agrees : (xs : List ℕ) (ns : List ℤ) (before : List ℕ) → Agree (Zipped (scaled binary64) xs ns before)
+scalbnd-batch-agrees xs ns before after after' r s p q = unique p q
