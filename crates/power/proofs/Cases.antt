@@ -1,0 +1,84 @@
+-- The definitions that pick one of their arguments by tests: what is done to the answer may be done to the arguments. Assumes nothing.
+use Prim.Native.Nat.{ℕ, _+_, _≤_}
+use mathlib.Core.Path.{_≡_, refl, ap, _∙_}
+use mathlib.Core.Bool.{Bool, true, false, not, cond, _&&_, _||_}
+use mathlib.Core.Logic.{_⊎_, inl, inr}
+use native.Mathlib.Omega.{arith}
+use lib.Dec.{ltb, eqb}
+use lib.Ieee.{Float, Format, add, mul, toBits, top}
+use borrow.Author.Tests.{ltb-false}
+use Rattle.power.specs.declared.answer.Fate.{Fate}
+use Rattle.power.specs.declared.answer.Fate.the-variants.{Over, Under, Within}
+use Rattle.power.specs.declared.answer.Sorted.{Sorted}
+use Rattle.power.specs.declared.answer.Sorted.the-variants.{Settled, Open}
+use Rattle.words.specs.Format.{one, magnitude, negative, ours}
+use Rattle.power.specs.Sorting.{twoWord, halfWord, sorted, sorted5, sorted6, sorted7, Told, told, toldSettled, toldOpen}
+use Rattle.power.specs.Width.{Width, Two}
+use Rattle.power.specs.Chain.{fateOf, exp2Of, overOf, underOf, finishOf, openOf}
+use Rattle.power.specs.Power.{powOf}
+
+push : {A B : Type 0} (g : A → B) (t : Bool) (x y : A) → g (cond t x y) ≡ cond t (g x) (g y)
+push g true x y = refl
+push g false x y = refl
+
+pub sorted-map : {A B : Type 0} (g : A → B) (s : ℕ → A) (u : Bool → A) (f : Format) (x y : ℕ) → g (sorted s u f x y) ≡ sorted (λ n. g (s n)) (λ b. g (u b)) f x y
+unfolding sorted sorted5 sorted6 sorted7
+sorted-map g s u f x y = simp (push g)
+
+-- past rule 5, where y is none of its four, or 0.5 with the sign of x set
+pub past5 : {R : Type 0} (s : ℕ → R) (u : Bool → R) (f : Format) (x y : ℕ) → eqb y (one (ours f)) ≡ false → eqb y (top f + one (ours f)) ≡ false → eqb y (twoWord (ours f)) ≡ false → eqb y (halfWord (ours f)) && not (negative (ours f) x) ≡ false → sorted6 s u (ours f) (magnitude (ours f) x) (negative (ours f) x) (magnitude (ours f) y) (negative (ours f) y) ≡ sorted5 s u f x y
+unfolding sorted5
+past5 s u f x y a b c d = rw (a, b, c, d) refl
+
+fate-map : {A B : Type 0} (g : A → B) (w : Width) (a b c : A) (p : Two) → g (fateOf w a b c p) ≡ fateOf w (g a) (g b) (g c) p
+unfolding fateOf
+fate-map g w a b c p = simp (push g)
+
+-- ---- the power, from the sorting's answer
+
+abbrev pub chosen : Width → ℕ → ℕ → Sorted → ℕ
+chosen w x y (Settled r) = r
+chosen w x y (Open s) = openOf w x y s
+
+abbrev chosenTold : Width → ℕ → ℕ → Told → ℕ
+chosenTold w x y t = cond (t .settled) (t .word) (openOf w x y (t .negative))
+
+chosen-told : (w : Width) (x y : ℕ) (a : Sorted) → chosen w x y a ≡ chosenTold w x y (told a)
+chosen-told w x y (Settled r) = refl
+chosen-told w x y (Open s) = refl
+
+pub pow-chosen : (w : Width) (x y : ℕ) (a : Sorted) → told a ≡ sorted toldSettled toldOpen (w .format) x y → chosen w x y a ≡ powOf w x y
+unfolding powOf
+pow-chosen w x y a e = chosen-told w x y a ∙ ap (chosenTold w x y) e ∙ sorted-map (chosenTold w x y) toldSettled toldOpen (w .format) x y
+
+-- ---- the chain's end, from the fate
+
+abbrev pub ended : Width → Two → Float → Fate → Float
+ended w p sn Over = overOf w sn
+ended w p sn Under = underOf w sn
+ended w p sn Within = mul (w .format) sn (exp2Of w p)
+
+pub finish-ended : (w : Width) (p : Two) (sn : Float) (f : Fate) → f ≡ fateOf w Over Under Within p → ended w p sn f ≡ finishOf w p sn
+unfolding finishOf
+finish-ended w p sn f e = ap (ended w p sn) e ∙ fate-map (ended w p sn) w Over Under Within p
+
+-- ---- a z within the limits
+
+abbrev pub Inside : Width → ℕ → Type 0
+Inside w j = (j ≤ w .large) ⊎ ((top (w .format) ≤ j) × (j ≤ top (w .format) + w .small))
+
+within-at : {A : Type 0} (w : Width) (x y z : A) (n1 : x ≡ z → ⊥) (n2 : y ≡ z → ⊥) (j : ℕ) (t u v a b : Bool) → ltb j (top (w .format)) ≡ t → ltb (w .large) j ≡ u → ltb (top (w .format) + w .small) j ≡ v → cond t (cond (u || a) x z) (cond (v || b) y z) ≡ z → Inside w j
+within-at w x y z n1 n2 j true true v a b p q r e = absurd (n1 e)
+within-at w x y z n1 n2 j true false v a b p q r e = inl (ltb-false (w .large) j q)
+within-at w x y z n1 n2 j false u true a b p q r e = absurd (n2 e)
+within-at w x y z n1 n2 j false u false a b p q r e = inr (ltb-false j (top (w .format)) p, ltb-false (top (w .format) + w .small) j r)
+
+over-within : Over ≡ Within → ⊥
+over-within e = let z : _≡_ {A = ℕ} 0 1 = cc in omega arith
+
+under-within : Under ≡ Within → ⊥
+under-within e = let z : _≡_ {A = ℕ} 0 1 = cc in omega arith
+
+pub within : (w : Width) (p : Two) → fateOf w Over Under Within p ≡ Within → Inside w (toBits (w .format) (add (w .format) (p .lo) (p .hi)))
+unfolding fateOf
+within w p e = within-at w Over Under Within over-within under-within (toBits (w .format) (add (w .format) (p .lo) (p .hi))) _ _ _ _ _ refl refl refl e

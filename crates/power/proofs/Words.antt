@@ -1,0 +1,65 @@
+-- Masks and shifts of words, as the code writes them, in plain arithmetic. Assumes nothing.
+use Prim.Native.Nat.{ℕ, suc, _+_, _-_, _*_, _/_, _%_, _^_, _<_, _≤_}
+use mathlib.Core.Path.{_≡_, sym, ap, _∙_, subst}
+use lib.Bits.{bitAnd, bitOr, and-mask, and-high, or-shifted-r}
+use native.Mathlib.Nat.{mod-lt, mod-eq-of-lt, mul-comm, one-mul}
+use native.Mathlib.Omega.{arith}
+use lib.Pow.{shr-mod, pow-pos, ones-split, ones-lt, high}
+use Rattle.words.specs.Format.{format, top}
+use Rattle.words.specs.Rounding.{Held}
+use Rattle.words.proofs.Digits.{room}
+
+-- the size of a word: of an f32, and of an f64
+pub size32 : (x : ℕ) → bitAnd x 0x7fffffff ≡ x % 2 ^ 31
+size32 x = and-mask x 31
+
+pub size64 : (x : ℕ) → bitAnd x 0x7fffffffffffffff ≡ x % 2 ^ 63
+size64 x = and-mask x 63
+
+-- the mask of the j highest of j + k digits
+pub cut : (j k n : ℕ) → n < 2 ^ (j + k) → bitAnd n (2 ^ (j + k) - 2 ^ k) ≡ n / 2 ^ k * 2 ^ k
+cut j k n h = and-high n j k ∙ ap (λ (q : ℕ). q * 2 ^ k) (shr-mod j k h)
+
+-- the k lowest digits, with a in front of them
+pub joined : (a k n : ℕ) → bitOr (bitAnd n (2 ^ k - 1)) (a * 2 ^ k) ≡ a * 2 ^ k + n % 2 ^ k
+joined a k n = rw (and-mask n k) (or-shifted-r a k (n % 2 ^ k) (mod-lt n (pow-pos k)))
+
+-- the k lowest digits, with a leading one
+pub led : (k n : ℕ) → bitOr (bitAnd n (2 ^ k - 1)) (2 ^ k) ≡ 2 ^ k + n % 2 ^ k
+led k n = ap (bitOr (bitAnd n (2 ^ k - 1))) (sym (one-mul (2 ^ k))) ∙ joined 1 k n ∙ ap (λ (m : ℕ). m + n % 2 ^ k) (one-mul (2 ^ k))
+
+-- the p lowest digits' mask, moved down by k and turned over: the mask of all but p - k digits of a word of w
+pub unmask : (p k w n : ℕ) → k ≤ p → p ≤ w → n < 2 ^ w → bitAnd n ((2 ^ w - 1) - (2 ^ p - 1) / 2 ^ k) ≡ n / 2 ^ (p - k) * 2 ^ (p - k)
+unmask p k w n hk hw hn =
+    let d : ℕ = p - k in
+    let low : p ≡ d + k = omega arith in
+    let all : w ≡ w - d + d = omega arith in
+    let ones : (2 ^ p - 1) / 2 ^ k ≡ 2 ^ d - 1 =
+    ap (λ (q : ℕ). (2 ^ q - 1) / 2 ^ k) low ∙ ap (λ (x : ℕ). x / 2 ^ k) (ones-split d k) ∙ high (2 ^ d - 1) k (ones-lt k) in
+    let mask : (2 ^ w - 1) - (2 ^ p - 1) / 2 ^ k ≡ 2 ^ (w - d + d) - 2 ^ d = omega (arith, ones, pow-pos d, ap (λ (q : ℕ). 2 ^ q) all) in
+    ap (bitAnd n) mask ∙ cut (w - d) d n (subst (λ (q : ℕ). n < 2 ^ q) all hn)
+
+-- ---- a format that 64 bits hold
+
+pub held32 : Held 24 127
+held32 = record { least = omega arith; small = omega arith; room = omega arith; high = omega arith }
+
+pub held64 : Held 53 1023
+held64 = record { least = omega arith; small = omega arith; room = omega arith; high = omega arith }
+
+-- a field in its place
+pub placed : (p t : ℕ) → p ≤ 53 → t ≤ 2 ^ 11 → t * 2 ^ (p - 1) % 2 ^ 64 ≡ t * 2 ^ (p - 1)
+placed p t hp ht = mod-eq-of-lt (below (t * 2 ^ (p - 1)) (room t p ht hp))
+  where
+    below : (n : ℕ) → n ≤ 2 ^ 63 → n < 2 ^ 64
+    below n h = omega arith
+
+pub top-small : (p e : ℕ) → Held p e → top (format p e) ≤ 2 ^ 63
+top-small p e h = subst (λ (n : ℕ). n ≤ 2 ^ 63) (mul-comm (suc (2 * e + 1)) (2 ^ (p - 1))) (room (suc (2 * e + 1)) p (omega (arith, h .high)) (h .small))
+
+-- the digits of a size, with the leading one
+pub digits-small : (p e m : ℕ) → Held p e → 2 ^ (p - 1) + m % 2 ^ (p - 1) < 2 ^ 64
+digits-small p e m h = go (2 ^ (p - 1)) (m % 2 ^ (p - 1)) (room 2 p (omega arith) (h .small)) (mod-lt m (pow-pos (p - 1)))
+  where
+    go : (a b : ℕ) → 2 * a ≤ 2 ^ 63 → b < a → a + b < 2 ^ 64
+    go a b r l = omega arith

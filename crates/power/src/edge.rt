@@ -1,0 +1,92 @@
+// Rules 4, 6 and 7 of the sorting, by sizes and signs, in the format of p digits and largest
+// exponent emax. A sign is true for negative: `minus` is that of x, `down` that of y.
+ghost use mathlib.Core.Path.{_≡_};
+ghost use Prim.Native.Nat.{_<_};
+ghost use Rattle.words.specs.Format.{format, top};
+ghost use Rattle.words.specs.Rounding.{Held};
+ghost use Rattle.power.specs.Sorting.{atInfinity, turned, atEdge, sorted6, told, toldSettled, toldOpen};
+use super::answer::Sorted;
+use super::kind::kind_of;
+use super::marks::infinity_of;
+use super::marks::one_of;
+use super::marks::quiet_of;
+use super::marks::top_of;
+
+// Rule 4: a power to an infinity.
+pub fn infinite(p: u64, emax: u64, ix: u64, down: bool) -> u64
+    requires { ⌜ Held p emax ⌝ }
+    ensures { λ r. ⌜ r ≡ atInfinity (format p emax) ix down ⌝ }
+{
+    let one = one_of(p, emax);
+    if ix == one {
+        return one;
+    }
+    let infinity = infinity_of(p, emax);
+    if ix > one {
+        if down { 0 } else { infinity }
+    } else {
+        if down { infinity } else { 0 }
+    }
+}
+
+// Rule 6: the size 0, infinite or 1, or one divided by it.
+fn turn(p: u64, emax: u64, ix: u64, down: bool) -> u64
+    requires { ⌜ (Held p emax) × (ix < top (format p emax)) ⌝ }
+    ensures { λ r. ⌜ (r ≡ turned (format p emax) ix down) × (r < top (format p emax)) ⌝ }
+{
+    let infinity = infinity_of(p, emax);
+    if down {
+        if ix == 0 {
+            return infinity;
+        }
+        if ix == infinity {
+            return 0;
+        }
+    }
+    ix
+}
+
+// Rule 6 with its sign.
+fn edge(p: u64, emax: u64, ix: u64, minus: bool, iy: u64, down: bool) -> u64
+    requires { ⌜ (Held p emax) × (ix < top (format p emax)) × (0 < iy) ⌝ }
+    ensures { λ r. ⌜ r ≡ atEdge (format p emax) ix minus iy down ⌝ }
+{
+    let z = turn(p, emax, ix, down);
+    if !minus {
+        return z;
+    }
+    let k = kind_of(p, emax, iy);
+    if k.odd {
+        return top_of(p, emax) + z;
+    }
+    if !k.whole {
+        if ix == one_of(p, emax) {
+            return quiet_of(p, emax);
+        }
+    }
+    z
+}
+
+// Rules 6 and 7, and the open pairs.
+pub fn sort_rest(p: u64, emax: u64, ix: u64, minus: bool, iy: u64, down: bool) -> Sorted
+    requires { ⌜ (Held p emax) × (ix < top (format p emax)) × (0 < iy) ⌝ }
+    ensures { λ r. ⌜ told r ≡ sorted6 toldSettled toldOpen (format p emax) ix minus iy down ⌝ }
+{
+    if ix == infinity_of(p, emax) {
+        return Sorted::Settled(edge(p, emax, ix, minus, iy, down));
+    }
+    if ix == 0 {
+        return Sorted::Settled(edge(p, emax, ix, minus, iy, down));
+    }
+    if ix == one_of(p, emax) {
+        return Sorted::Settled(edge(p, emax, ix, minus, iy, down));
+    }
+    if !minus {
+        return Sorted::Open(false);
+    }
+    let k = kind_of(p, emax, iy);
+    if !k.whole {
+        return Sorted::Settled(quiet_of(p, emax));
+    }
+    Sorted::Open(k.odd)
+}
