@@ -1,12 +1,13 @@
 -- The definitions that pick one of their arguments by tests: what is done to the answer may be done to the arguments. Assumes nothing.
-use Prim.Native.Nat.{ℕ, _+_, _≤_}
+use Prim.Native.Nat.{ℕ, _+_, _-_, _*_, _%_, _<_, _≤_}
 use mathlib.Core.Path.{_≡_, refl, ap, _∙_}
 use mathlib.Core.Bool.{Bool, true, false, not, cond, _&&_, _||_}
 use mathlib.Core.Logic.{_⊎_, inl, inr}
+use native.Mathlib.Nat.{mod-eq-of-lt, mod-eq-sub-mod}
 use native.Mathlib.Omega.{arith}
 use lib.Dec.{ltb, eqb}
 use lib.Ieee.{Float, Format, add, mul, toBits, top}
-use borrow.Author.Tests.{ltb-false}
+use borrow.Author.Tests.{le-ltb, ne-eqb, ltb-true, ltb-false}
 use Rattle.power.specs.declared.answer.Fate.{Fate}
 use Rattle.power.specs.declared.answer.Fate.the-variants.{Over, Under, Within}
 use Rattle.power.specs.declared.answer.Sorted.{Sorted}
@@ -62,7 +63,22 @@ pub finish-ended : (w : Width) (p : Two) (sn : Float) (f : Fate) → f ≡ fateO
 unfolding finishOf
 finish-ended w p sn f e = ap (ended w p sn) e ∙ fate-map (ended w p sn) w Over Under Within p
 
--- ---- a z within the limits
+-- ---- a z within the limits, and well within
+
+pub fate-inside : {A : Type 0} (w : Width) (a b c : A) (p : Two) → (j : ℕ) → j ≡ toBits (w .format) (add (w .format) (p .lo) (p .hi)) → j < 2 * top (w .format) → j % top (w .format) < w .large → w .large ≤ w .small → c ≡ fateOf w a b c p
+unfolding fateOf
+fate-inside w a b c p j e f h l = go (ltb j (top (w .format))) refl
+  where
+    over : (t n : ℕ) → t ≤ n → n < 2 * t → n ≡ t + n % t
+    over t n g f = let s = mod-eq-sub-mod g in let r : (n - t) % t ≡ n - t = mod-eq-of-lt (omega arith) in omega arith
+
+    go : (t : Bool) → ltb j (top (w .format)) ≡ t → c ≡ fateOf w a b c p
+    go true g =
+        let m = mod-eq-of-lt (ltb-true j (top (w .format)) g) in
+        rw (← e, g, le-ltb (w .large) j (omega arith), ne-eqb j (w .large) (λ q. omega arith)) refl
+    go false g =
+        let m = over (top (w .format)) j (ltb-false j (top (w .format)) g) f in
+        rw (← e, g, le-ltb (top (w .format) + w .small) j (omega arith), ne-eqb j (top (w .format) + w .small) (λ q. omega arith)) refl
 
 abbrev pub Inside : Width → ℕ → Type 0
 Inside w j = (j ≤ w .large) ⊎ ((top (w .format) ≤ j) × (j ≤ top (w .format) + w .small))

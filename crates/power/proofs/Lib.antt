@@ -1,3 +1,6 @@
 pub mod Numbers
 pub mod Words
 pub mod Cases
+pub mod Nan
+pub mod Fits
+pub mod Exponent

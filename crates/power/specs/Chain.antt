@@ -3,7 +3,7 @@
 use Prim.Native.Nat.{ℕ, _+_, _-_, _*_, _/_, _%_, _^_}
 use mathlib.Core.Bool.{Bool, false, _&&_, _||_, cond}
 use lib.Dec.{leb, ltb, eqb}
-use lib.IntN.{ℤ, pos, negℤ, subℕ}
+use lib.IntN.{pos, negℤ, subℕ}
 use lib.ListN.{getD}
 use lib.Ieee.{Float, add, sub, mul, div, lt, le, toBits, ofBits, ofInt, hid, top, emax, prec}
 use Rattle.words.specs.Format.{ours, one, signed, magnitude, negative}
@@ -52,6 +52,10 @@ module _ (w : Width) where
   unfoldable pub chop : ℕ → Float → Float
   chop d x = at (toBits (w .format) x / 2 ^ d * 2 ^ d)
 
+  -- u + v in two parts, the first a leading part
+  unfoldable pub splitOf : Float → Float → Two
+  splitOf u v = let h = chop (w .short) (u ⊕ v) in record { hi = h; lo = v ⊖ (h ⊖ u) }
+
   -- ---- log2(ax) = t1 + t2, where |y| is not huge
 
   -- determine interval: k, n and the normalized ix
@@ -97,18 +101,20 @@ module _ (w : Width) where
       let s2 = q .hi ⊗ q .hi in
       let t-h = chop (w .short) (#3 ⊕ s2 ⊕ r) in
       let t-l = r ⊖ ((t-h ⊖ #3) ⊖ s2) in
-      let u = q .hi ⊗ t-h in
-      let v = q .lo ⊗ t-h ⊕ t-l ⊗ q .s in
-      let p-h = chop (w .short) (u ⊕ v) in
-      record { hi = p-h; lo = v ⊖ (p-h ⊖ u) }
+      splitOf (q .hi ⊗ t-h) (q .lo ⊗ t-h ⊕ t-l ⊗ q .s)
+
+  -- z_h + z_l + dp_h + t in two parts, the first a leading part
+  unfoldable pub sumOf : Float → Float → Float → Float → Two
+  sumOf z-h z-l dp-h t =
+      let t1 = chop (w .short) ((z-h ⊕ z-l) ⊕ dp-h ⊕ t) in
+      record { hi = t1; lo = z-l ⊖ (((t1 ⊖ t) ⊖ dp-h) ⊖ z-h) }
 
   -- t1 + t2 = log2(ax) = (s + ..) * 2 / (3 * log2) = n + dp_h + z_h + z_l
   unfoldable pub log2Of : Two → Float → Float → Float → Two
   log2Of p dp-h dp-l t =
       let z-h = con CP-H ⊗ p .hi in
       let z-l = con CP-L ⊗ p .hi ⊕ p .lo ⊗ con CP ⊕ dp-l in
-      let t1 = chop (w .short) ((z-h ⊕ z-l) ⊕ dp-h ⊕ t) in
-      record { hi = t1; lo = z-l ⊖ (((t1 ⊖ t) ⊖ dp-h) ⊖ z-h) }
+      sumOf z-h z-l dp-h t
 
   -- t = n as a float
   unfoldable pub exponentOf : ℕ → Float
@@ -127,10 +133,11 @@ module _ (w : Width) where
   nearOf ix =
       let t = at ix ⊖ #1 in
       let c = (t ⊗ t) ⊗ (#half ⊖ t ⊗ (con THIRD ⊖ t ⊗ #quarter)) in
-      let u = con IVLN2-H ⊗ t in
-      let v = t ⊗ con IVLN2-L ⊖ c ⊗ con IVLN2 in
-      let t1 = chop (w .short) (u ⊕ v) in
-      record { hi = t1; lo = v ⊖ (t1 ⊖ u) }
+      splitOf (con IVLN2-H ⊗ t) (t ⊗ con IVLN2-L ⊖ c ⊗ con IVLN2)
+
+  -- t1 and t2, by whether |y| is huge
+  unfoldable pub logOf : ℕ → ℕ → Two
+  logOf ix iy = cond (ltb (w .huge) iy) (nearOf ix) (farOf ix)
 
   -- ---- split up y into y1 + y2 and compute p_h + p_l = (y1 + y2) * (t1 + t2)
   unfoldable pub productOf : Float → Two → Two
@@ -208,7 +215,12 @@ module _ (w : Width) where
   unfoldable pub signOf : Bool → Float
   signOf s = at (signed (ours (w .format)) s (one (ours (w .format))))
 
-  -- From `huge` on x decides by itself, but for an x near 1. From `must` on every x does: the result is then positive, and the Rust leaves its sign out.
+  -- above `must` every x over- or underflows; the result is positive there, and the Rust leaves its sign out
+  unfoldable pub hugeOf : ℕ → Bool → Float
+  hugeOf ix down =
+      cond (ltb ix (one (ours (w .format)) / 2 ^ w .below)) (cond down (overOf #1) (underOf #1)) (cond down (underOf #1) (overOf #1))
+
+  -- Above `huge` x decides by itself, but for an x near 1.
   unfoldable pub openOf : ℕ → ℕ → Bool → ℕ
   openOf x y s =
       let sn = signOf s in
@@ -216,10 +228,9 @@ module _ (w : Width) where
       let ix = m / 2 ^ w .below in
       let iy = magnitude (ours (w .format)) y / 2 ^ w .below in
       let down = negative (ours (w .format)) y in
+      let end = finishOf (productOf (at y) (logOf m iy)) sn in
       toBits (w .format)
       (cond (ltb (w .huge) iy)
-      (cond (ltb (w .must) iy) (cond (ltb ix (one (ours (w .format)) / 2 ^ w .below)) (cond down (overOf #1) (underOf #1)) (cond down (underOf #1) (overOf #1)))
-      (cond (ltb ix (w .less)) (cond down (overOf sn) (underOf sn))
-      (cond (ltb (w .more) ix) (cond down (underOf sn) (overOf sn))
-      (finishOf (productOf (at y) (nearOf m)) sn))))
-      (finishOf (productOf (at y) (farOf m)) sn))
+      (cond (ltb (w .must) iy) (hugeOf ix down)
+      (cond (ltb ix (w .less)) (cond down (overOf sn) (underOf sn)) (cond (ltb (w .more) ix) (cond down (underOf sn) (overOf sn)) end)))
+      end)

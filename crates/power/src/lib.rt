@@ -5,4 +5,5 @@ pub mod double;
 pub mod edge;
 pub mod kind;
 pub mod marks;
+pub mod signed;
 pub mod single;

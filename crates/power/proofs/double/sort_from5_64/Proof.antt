@@ -10,12 +10,6 @@ use Rattle.power.proofs.Words.{size64, held64}
 use borrow.Author.Needs.{needs}
 use Rattle.power.proofs.double.sort_from5_64.Statement.{statement}
 use Rattle.power.proofs.double.sort_from5_64.Tie as tie
-use Rattle.power.proofs.double.sort_from5_64.Reads as reads
-use Rattle.power.proofs.double.sort_from5_64.Lts as lts
-use Rattle.power.proofs.double.reciprocal64.Reads as reciprocal64-reads
-use Rattle.power.proofs.double.square64.Reads as square64-reads
-use Rattle.power.proofs.edge.sort_rest.Reads as sort-rest-reads
-use Rattle.root.proofs.double.root64.Reads as root64-reads
 
 returns : tie.Need-returns
 unfolding sorted5
@@ -46,7 +40,7 @@ sort-rest-requires : tie.Need-sort-rest-requires
 sort-rest-requires c κs = (held64, rw size64 (omega arith), rw size64 (c .before .before .before .before .pre))
 
 returns-5 : tie.Need-returns-5
-returns-5 c = 
+returns-5 c =
     (rw (size64 (c .before .before .before .before .before .args .x), size64 (c .before .before .before .before .before .args .y)) at (c .sort-rest .ensures)) ∙
     past5 toldSettled toldOpen binary64 (c .before .before .before .before .before .args .x) (c .before .before .before .before .before .args .y) (ne-eqb _ _ (c .before .before .before .before .if1 .left)) (ne-eqb _ _ (c .before .before .before .if2 .left)) (ne-eqb _ _ (c .before .before .if3 .left))
     (⊎-elim (λ w. rw (eq-eqb _ _ (w .0 .taken), le-leb _ _ (w .1 .left)) refl) (λ w. rw (ne-eqb _ _ (w .left)) refl) (c .before .if4 .came))

@@ -3,13 +3,8 @@ use Prim.Native.Nat.{_-_}
 use native.Mathlib.Omega.{arith}
 use Rattle.power.specs.Sorting.{sorted}
 use Rattle.power.proofs.Words.{size64, held64}
-use borrow.Author.Needs.{needs}
 use Rattle.power.proofs.double.sort_powd.Statement.{statement}
 use Rattle.power.proofs.double.sort_powd.Tie as tie
-use Rattle.power.proofs.double.sort_powd.Reads as reads
-use Rattle.power.proofs.double.sort_powd.Lts as lts
-use Rattle.power.proofs.double.sort_from5_64.Reads as sort-from5-64-reads
-use Rattle.power.proofs.edge.infinite.Reads as infinite-reads
 
 returns : tie.Need-returns
 unfolding sorted

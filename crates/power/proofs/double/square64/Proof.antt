@@ -2,10 +2,6 @@ use Rattle.power.specs.Sorting.{square}
 use borrow.Author.Needs.{needs}
 use Rattle.power.proofs.double.square64.Statement.{statement}
 use Rattle.power.proofs.double.square64.Tie as tie
-use Rattle.power.proofs.double.square64.Reads as reads
-use Rattle.power.proofs.double.square64.Lts as lts
-use Rattle.words.proofs.bridge.of_word64.Reads as of-word64-reads
-use Rattle.words.proofs.bridge.to_word64.Reads as to-word64-reads
 
 of-word64-requires : tie.Need-of-word64-requires
 of-word64-requires c κs = search needs

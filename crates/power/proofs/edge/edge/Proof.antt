@@ -1,5 +1,3 @@
-use mathlib.Core.Path.{_≡_, refl, sym, ap, subst, _∙_}
-use Rattle.words.specs.Format.{format}
 use Prim.Native.Nat.{_-_}
 use native.Mathlib.Omega.{arith}
 use borrow.Author.Tests.{eq-eqb, ne-eqb}
@@ -8,13 +6,6 @@ use Rattle.power.proofs.Words.{top-small}
 use borrow.Author.Needs.{needs}
 use Rattle.power.proofs.edge.edge.Statement.{statement}
 use Rattle.power.proofs.edge.edge.Tie as tie
-use Rattle.power.proofs.edge.edge.Reads as reads
-use Rattle.power.proofs.edge.edge.Lts as lts
-use Rattle.power.proofs.edge.turn.Reads as turn-reads
-use Rattle.power.proofs.kind.kind_of.Reads as kind-of-reads
-use Rattle.power.proofs.marks.one_of.Reads as one-of-reads
-use Rattle.power.proofs.marks.quiet_of.Reads as quiet-of-reads
-use Rattle.power.proofs.marks.top_of.Reads as top-of-reads
 
 turn-requires : tie.Need-turn-requires
 turn-requires c κs = search needs

@@ -1,13 +1,8 @@
-use mathlib.Core.Path.{_≡_, refl, sym, ap, subst, _∙_}
-use borrow.Author.Tests.{lt-ltb, le-ltb, le-leb, lt-leb, eq-eqb, ne-eqb}
+use borrow.Author.Tests.{lt-ltb, le-ltb, eq-eqb, ne-eqb}
 use Rattle.power.specs.Sorting.{atInfinity}
 use borrow.Author.Needs.{needs}
 use Rattle.power.proofs.edge.infinite.Statement.{statement}
 use Rattle.power.proofs.edge.infinite.Tie as tie
-use Rattle.power.proofs.edge.infinite.Reads as reads
-use Rattle.power.proofs.edge.infinite.Lts as lts
-use Rattle.power.proofs.marks.infinity_of.Reads as infinity-of-reads
-use Rattle.power.proofs.marks.one_of.Reads as one-of-reads
 
 one-of-requires : tie.Need-one-of-requires
 one-of-requires c κs = search needs

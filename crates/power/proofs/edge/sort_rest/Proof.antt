@@ -1,16 +1,8 @@
-use mathlib.Core.Path.{_≡_, refl, sym, ap, subst, _∙_}
 use borrow.Author.Tests.{eq-eqb, ne-eqb}
 use Rattle.power.specs.Sorting.{sorted6, sorted7}
 use borrow.Author.Needs.{needs}
 use Rattle.power.proofs.edge.sort_rest.Statement.{statement}
 use Rattle.power.proofs.edge.sort_rest.Tie as tie
-use Rattle.power.proofs.edge.sort_rest.Reads as reads
-use Rattle.power.proofs.edge.sort_rest.Lts as lts
-use Rattle.power.proofs.edge.edge.Reads as edge-reads
-use Rattle.power.proofs.kind.kind_of.Reads as kind-of-reads
-use Rattle.power.proofs.marks.infinity_of.Reads as infinity-of-reads
-use Rattle.power.proofs.marks.one_of.Reads as one-of-reads
-use Rattle.power.proofs.marks.quiet_of.Reads as quiet-of-reads
 
 infinity-of-requires : tie.Need-infinity-of-requires
 infinity-of-requires c κs = search needs

@@ -1,16 +1,13 @@
-use mathlib.Core.Path.{_≡_, refl, subst⁻¹}
-use borrow.Author.Tests.{lt-ltb, le-ltb, le-leb, lt-leb, eq-eqb, ne-eqb}
+use mathlib.Core.Path.{subst⁻¹}
+use borrow.Author.Tests.{eq-eqb, ne-eqb}
 use native.Mathlib.Omega.{arith}
 use Rattle.words.specs.Format.{format, top}
 use Rattle.words.proofs.Words.{infinity-below}
 use Rattle.power.specs.Sorting.{turned}
-use Prim.Native.Nat.{ℕ, _+_, _-_, _*_, _/_, _%_, _^_, _<_, _≤_}
+use Prim.Native.Nat.{ℕ, _-_, _<_}
 use borrow.Author.Needs.{needs}
 use Rattle.power.proofs.edge.turn.Statement.{statement}
 use Rattle.power.proofs.edge.turn.Tie as tie
-use Rattle.power.proofs.edge.turn.Reads as reads
-use Rattle.power.proofs.edge.turn.Lts as lts
-use Rattle.power.proofs.marks.infinity_of.Reads as infinity-of-reads
 
 infinity-of-requires : tie.Need-infinity-of-requires
 infinity-of-requires c κs = search needs

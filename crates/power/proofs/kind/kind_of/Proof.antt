@@ -1,4 +1,4 @@
-use Prim.Native.Nat.{ℕ, _+_, _-_, _*_, _/_, _%_, _^_, _<_, _≤_}
+use Prim.Native.Nat.{ℕ, _+_, _-_, _/_, _^_, _≤_}
 use mathlib.Core.Path.{sym, subst⁻¹}
 use native.Mathlib.Omega.{arith}
 use lib.Bits.{and-mask}
@@ -10,8 +10,6 @@ use Rattle.power.proofs.Numbers.{kind-large, kind-small, kind-yes, kind
 use borrow.Author.Needs.{needs}
 use Rattle.power.proofs.kind.kind_of.Statement.{statement}
 use Rattle.power.proofs.kind.kind_of.Tie as tie
-use Rattle.power.proofs.kind.kind_of.Reads as reads
-use Rattle.power.proofs.kind.kind_of.Lts as lts
 
 sub-field : tie.Need-sub-field
 sub-field c = search needs
@@ -50,7 +48,7 @@ shl-if3 : tie.Need-shl-if3
 shl-if3 c = search needs
 
 returns-2 : tie.Need-returns-2
-returns-2 c = 
+returns-2 c =
     let a = c .before .before .before .args in
     let f = format (a .p) (a .emax) in
     let h = c .before .before .before .pre .0 in
@@ -60,7 +58,7 @@ returns-2 c =
     (sym (k .0), rw (s, led (a .p - 1) (a .iy), and-mask _ 1) (sym (k .1)))
 
 returns-3 : tie.Need-returns-3
-returns-3 c = 
+returns-3 c =
     let a = c .before .before .before .args in
     let f = format (a .p) (a .emax) in
     let h = c .before .before .before .pre .0 in

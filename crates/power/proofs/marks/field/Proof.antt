@@ -2,8 +2,6 @@ use Rattle.power.proofs.Words.{placed}
 use borrow.Author.Needs.{needs}
 use Rattle.power.proofs.marks.field.Statement.{statement}
 use Rattle.power.proofs.marks.field.Tie as tie
-use Rattle.power.proofs.marks.field.Reads as reads
-use Rattle.power.proofs.marks.field.Lts as lts
 
 sub-result : tie.Need-sub-result
 sub-result c = search needs

@@ -1,6 +1,5 @@
-use Prim.Native.Nat.{ℕ, _+_, _-_, _*_, _/_, _%_, _^_, _<_, _≤_}
+use Prim.Native.Nat.{ℕ, _+_, _-_, _*_, _/_, _^_, _<_, _≤_}
 use native.Mathlib.Omega.{arith}
-use Rattle.words.proofs.Digits.{room}
 use mathlib.Core.Path.{_≡_}
 use Rattle.words.specs.Format.{format}
 use Rattle.words.specs.Rounding.{Held}
@@ -9,10 +8,6 @@ use Rattle.power.proofs.Words.{top-small}
 use borrow.Author.Needs.{needs}
 use Rattle.power.proofs.marks.quiet_of.Statement.{statement}
 use Rattle.power.proofs.marks.quiet_of.Tie as tie
-use Rattle.power.proofs.marks.quiet_of.Reads as reads
-use Rattle.power.proofs.marks.quiet_of.Lts as lts
-use Rattle.power.proofs.marks.field.Reads as field-reads
-use Rattle.power.proofs.marks.infinity_of.Reads as infinity-of-reads
 
 small : (p e a b : ℕ) → Held p e → a ≡ (2 * e + 1) * 2 ^ (p - 1) → b ≡ 1 * 2 ^ (p - 1) → a + b / 2 < 2 ^ 64
 small p e a b h u v = go a b (2 ^ (p - 1)) ((2 * e + 1) * 2 ^ (p - 1)) u v (quiet-below (format p e)) (top-small p e h)

@@ -10,12 +10,6 @@ use Rattle.power.proofs.Words.{size32, held32}
 use borrow.Author.Needs.{needs}
 use Rattle.power.proofs.single.sort_from5_32.Statement.{statement}
 use Rattle.power.proofs.single.sort_from5_32.Tie as tie
-use Rattle.power.proofs.single.sort_from5_32.Reads as reads
-use Rattle.power.proofs.single.sort_from5_32.Lts as lts
-use Rattle.power.proofs.edge.sort_rest.Reads as sort-rest-reads
-use Rattle.power.proofs.single.reciprocal32.Reads as reciprocal32-reads
-use Rattle.power.proofs.single.square32.Reads as square32-reads
-use Rattle.root.proofs.single.root32.Reads as root32-reads
 
 returns : tie.Need-returns
 unfolding sorted5
@@ -61,7 +55,7 @@ sort-rest-requires : tie.Need-sort-rest-requires
 sort-rest-requires c κs = (held32, rw size32 (omega arith), rw size32 (c .before .before .before .before .pre))
 
 returns-5 : tie.Need-returns-5
-returns-5 c = 
+returns-5 c =
     (rw (size32 (c .before .before .before .before .before .args .x), size32 (c .before .before .before .before .before .args .y)) at (c .sort-rest .ensures)) ∙
     past5 toldSettled toldOpen binary32 (c .before .before .before .before .before .args .x) (c .before .before .before .before .before .args .y) (ne-eqb _ _ (c .before .before .before .before .if1 .left)) (ne-eqb _ _ (c .before .before .before .if2 .left)) (ne-eqb _ _ (c .before .before .if3 .left))
     (⊎-elim (λ w. rw (eq-eqb _ _ (w .0 .taken), le-leb _ _ (w .1 .left)) refl) (λ w. rw (ne-eqb _ _ (w .left)) refl) (c .before .if4 .came))

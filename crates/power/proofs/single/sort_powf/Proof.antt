@@ -6,10 +6,6 @@ use Rattle.power.proofs.Words.{size32, held32}
 use borrow.Author.Needs.{needs}
 use Rattle.power.proofs.single.sort_powf.Statement.{statement}
 use Rattle.power.proofs.single.sort_powf.Tie as tie
-use Rattle.power.proofs.single.sort_powf.Reads as reads
-use Rattle.power.proofs.single.sort_powf.Lts as lts
-use Rattle.power.proofs.edge.infinite.Reads as infinite-reads
-use Rattle.power.proofs.single.sort_from5_32.Reads as sort-from5-32-reads
 
 returns : tie.Need-returns
 unfolding sorted

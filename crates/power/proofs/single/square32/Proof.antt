@@ -2,10 +2,6 @@ use Rattle.power.specs.Sorting.{square}
 use borrow.Author.Needs.{needs}
 use Rattle.power.proofs.single.square32.Statement.{statement}
 use Rattle.power.proofs.single.square32.Tie as tie
-use Rattle.power.proofs.single.square32.Reads as reads
-use Rattle.power.proofs.single.square32.Lts as lts
-use Rattle.words.proofs.bridge.of_word32.Reads as of-word32-reads
-use Rattle.words.proofs.bridge.to_word32.Reads as to-word32-reads
 
 of-word32-requires : tie.Need-of-word32-requires
 of-word32-requires c κs = search needs

@@ -1,0 +1,29 @@
+use Prim.Native.Nat.{_-_}
+use mathlib.Core.Path.{_≡_}
+use lib.Ieee.{Float, nan}
+use Rattle.power.specs.Chain.{splitOf, logarithmOf}
+use Rattle.power.specs.Power.{double}
+use Rattle.power.proofs.Nan.{differs, add-nan-l, sub-nan-l, sub-nan-r, mul-nan-l, mul-nan-r, short64, split-nan}
+use borrow.Author.Needs.{needs}
+use Rattle.power_double.proofs.logarithm.logarithm.Statement.{statement}
+use Rattle.power_double.proofs.logarithm.logarithm.Tie as tie
+
+split : (v : Float) → splitOf double nan v ≡ record { hi = nan; lo = nan }
+split v = split-nan double v short64
+
+returns : tie.Need-returns
+unfolding logarithmOf
+returns c = simp (differs _ (c .if1 .taken), short64, add-nan-l, sub-nan-l, sub-nan-r, mul-nan-l, mul-nan-r, split)
+
+leading-requires : tie.Need-leading-requires
+leading-requires c κs = search needs
+
+split-requires : tie.Need-split-requires
+split-requires c κs = search needs
+
+returns-2 : tie.Need-returns-2
+unfolding logarithmOf
+returns-2 c = cc
+
+pub logarithm-spec : {M : Type 1} → statement M
+logarithm-spec = tie.close (tie.spec returns leading-requires split-requires returns-2)

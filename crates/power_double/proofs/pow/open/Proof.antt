@@ -1,0 +1,120 @@
+use Prim.Native.Nat.{_-_}
+use mathlib.Core.Logic.{⊎-elim}
+use native.Mathlib.Omega.{arith}
+use borrow.Author.Tests.{lt-ltb, le-ltb, le-leb, lt-leb}
+use Rattle.power.specs.Chain.{openOf}
+use Rattle.power.proofs.Words.{size64}
+use borrow.Author.Needs.{needs}
+use Rattle.power_double.proofs.pow.open.Statement.{statement}
+use Rattle.power_double.proofs.pow.open.Tie as tie
+
+sign-requires : tie.Need-sign-requires
+sign-requires c κs = search needs
+
+cast-ix : tie.Need-cast-ix
+cast-ix c = rw size64 (omega arith)
+
+cast-iy : tie.Need-cast-iy
+cast-iy c = rw size64 (omega arith)
+
+huge-requires : tie.Need-huge-requires
+huge-requires c κs = search needs
+
+to-word64-requires : tie.Need-to-word64-requires
+to-word64-requires c κs = search needs
+
+returns : tie.Need-returns
+unfolding openOf
+returns c = simp (c .to-word64 .ensures, c .before .huge .ensures, lt-ltb _ _ (rw size64 at (c .before .before .before .if1 .taken)), lt-ltb _ _ (rw size64 at (c .before .before .if2 .taken)), size64)
+
+over-flow-requires : tie.Need-over-flow-requires
+over-flow-requires c κs = search needs
+
+to-word64-requires-2 : tie.Need-to-word64-requires-2
+to-word64-requires-2 c κs = search needs
+
+returns-2 : tie.Need-returns-2
+unfolding openOf
+returns-2 c = simp (c .to-word642 .ensures, c .before .over-flow .ensures, c .before .before .before .before .before .before .sign .ensures, lt-ltb _ _ (rw size64 at (c .before .before .before .before .before .if1 .taken)), le-ltb _ _ (rw size64 at (c .before .before .before .before .if2 .left)), lt-ltb _ _ (rw size64 at (c .before .before .before .if3 .taken)), le-leb _ _ (c .before .before .if4 .taken))
+
+under-flow-requires : tie.Need-under-flow-requires
+under-flow-requires c κs = search needs
+
+to-word64-requires-3 : tie.Need-to-word64-requires-3
+to-word64-requires-3 c κs = search needs
+
+returns-3 : tie.Need-returns-3
+unfolding openOf
+returns-3 c = simp (c .to-word643 .ensures, c .before .under-flow .ensures, c .before .before .before .before .before .before .sign .ensures, lt-ltb _ _ (rw size64 at (c .before .before .before .before .before .if1 .taken)), le-ltb _ _ (rw size64 at (c .before .before .before .before .if2 .left)), lt-ltb _ _ (rw size64 at (c .before .before .before .if3 .taken)), lt-leb _ _ (c .before .before .if4 .left))
+
+under-flow-requires-2 : tie.Need-under-flow-requires-2
+under-flow-requires-2 c κs = search needs
+
+to-word64-requires-4 : tie.Need-to-word64-requires-4
+to-word64-requires-4 c κs = search needs
+
+returns-4 : tie.Need-returns-4
+unfolding openOf
+returns-4 c = simp (c .to-word644 .ensures, c .before .under-flow2 .ensures, c .before .before .before .before .before .before .before .sign .ensures, lt-ltb _ _ (rw size64 at (c .before .before .before .before .before .before .if1 .taken)), le-ltb _ _ (rw size64 at (c .before .before .before .before .before .if2 .left)), le-ltb _ _ (rw size64 at (c .before .before .before .before .if3 .left)), lt-ltb _ _ (rw size64 at (c .before .before .before .if5 .taken)), le-leb _ _ (c .before .before .if6 .taken))
+
+over-flow-requires-2 : tie.Need-over-flow-requires-2
+over-flow-requires-2 c κs = search needs
+
+to-word64-requires-5 : tie.Need-to-word64-requires-5
+to-word64-requires-5 c κs = search needs
+
+returns-5 : tie.Need-returns-5
+unfolding openOf
+returns-5 c = simp (c .to-word645 .ensures, c .before .over-flow2 .ensures, c .before .before .before .before .before .before .before .sign .ensures, lt-ltb _ _ (rw size64 at (c .before .before .before .before .before .before .if1 .taken)), le-ltb _ _ (rw size64 at (c .before .before .before .before .before .if2 .left)), le-ltb _ _ (rw size64 at (c .before .before .before .before .if3 .left)), lt-ltb _ _ (rw size64 at (c .before .before .before .if5 .taken)), lt-leb _ _ (c .before .before .if6 .left))
+
+of-word64-requires : tie.Need-of-word64-requires
+of-word64-requires c κs = search needs
+
+log-of-requires : tie.Need-log-of-requires
+log-of-requires c κs = search needs
+
+product-requires : tie.Need-product-requires
+product-requires c κs = search needs
+
+finish-requires : tie.Need-finish-requires
+finish-requires c κs = search needs
+
+to-word64-requires-6 : tie.Need-to-word64-requires-6
+to-word64-requires-6 c κs = search needs
+
+returns-6 : tie.Need-returns-6
+unfolding openOf
+returns-6 c =
+    ⊎-elim
+    (λ w. simp (c .to-word646 .ensures, c .before .finish .ensures, c .before .before .product .ensures, c .before .before .before .log-of .ensures, c .before .before .before .before .of-word64 .ensures, c .before .before .before .before .before .before .sign .ensures, size64, lt-ltb _ _ (rw size64 at (w .0 .taken)), le-ltb _ _ (rw size64 at (w .1 .left)), le-ltb _ _ (rw size64 at (w .2 .left)), le-ltb _ _ (rw size64 at (w .3 .left))))
+    (λ w. simp (c .to-word646 .ensures, c .before .finish .ensures, c .before .before .product .ensures, c .before .before .before .log-of .ensures, c .before .before .before .before .of-word64 .ensures, c .before .before .before .before .before .before .sign .ensures, size64, le-ltb _ _ (rw size64 at (w .left))))
+    (c .before .before .before .before .before .if1 .came)
+
+pub open-spec : {M : Type 1} → statement M
+open-spec =
+    tie.close
+    (tie.spec
+    sign-requires
+    cast-ix
+    cast-iy
+    huge-requires
+    to-word64-requires
+    returns
+    over-flow-requires
+    to-word64-requires-2
+    returns-2
+    under-flow-requires
+    to-word64-requires-3
+    returns-3
+    under-flow-requires-2
+    to-word64-requires-4
+    returns-4
+    over-flow-requires-2
+    to-word64-requires-5
+    returns-5
+    of-word64-requires
+    log-of-requires
+    product-requires
+    finish-requires
+    to-word64-requires-6
+    returns-6)

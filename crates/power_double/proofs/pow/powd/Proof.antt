@@ -1,0 +1,30 @@
+use Prim.Native.Nat.{_-_}
+use mathlib.Core.Path.{sym, ap, _∙_}
+use Rattle.power.specs.Power.{double}
+use Rattle.power.proofs.Cases.{chosen, pow-chosen}
+use borrow.Author.Needs.{needs}
+use Rattle.power_double.proofs.pow.powd.Statement.{statement}
+use Rattle.power_double.proofs.pow.powd.Tie as tie
+
+sort-powd-requires : tie.Need-sort-powd-requires
+sort-powd-requires c κs = search needs
+
+enum-known-s : tie.Need-enum-known-s
+enum-known-s c = search needs
+
+enum-known-s-2 : tie.Need-enum-known-s-2
+enum-known-s-2 c = search needs
+
+open-requires : tie.Need-open-requires
+open-requires c κs = search needs
+
+returns : tie.Need-returns
+returns c = ap (chosen double (c .before .before .before .before .args .x) (c .before .before .before .before .args .y)) (sym (c .before .s .given .1)) ∙ pow-chosen double (c .before .before .before .before .args .x) (c .before .before .before .before .args .y) (c .before .before .before .sort-powd .result) (c .before .before .before .sort-powd .ensures)
+
+returns-2 : tie.Need-returns-2
+returns-2 c = c .«open» .ensures ∙ ap (chosen double (c .before .before .before .before .before .args .x) (c .before .before .before .before .before .args .y)) (sym (c .before .before .s2 .given .1)) ∙ pow-chosen double (c .before .before .before .before .before .args .x) (c .before .before .before .before .before .args .y) (c .before .before .before .before .sort-powd .result) (c .before .before .before .before .sort-powd .ensures)
+
+pub powd-spec : {M : Type 1} → statement M
+powd-spec =
+    tie.close
+    (tie.spec sort-powd-requires enum-known-s enum-known-s-2 open-requires returns returns-2)

@@ -1,0 +1,142 @@
+// log2(ax) = t1 + t2. Where a leading part is taken the number is tested for NaN, and a NaN makes the
+// whole answer one. No NaN arises, and a test that is never taken costs next to nothing.
+ghost use mathlib.Core.Path.{_≡_};
+ghost use Rattle.power.specs.Chain.{quotientOf, seriesOf, logarithmOf, sumOf, log2Of, farOf, nearOf, logOf};
+ghost use Rattle.power.specs.Power.{double};
+ghost use Rattle.power_double.specs.Parts.{two, three};
+use super::leading::Pair;
+use super::leading::leading;
+use super::leading::split;
+use super::reduction::exponent;
+use super::reduction::head;
+use super::reduction::reduce;
+use super::table::BP;
+use super::table::CP;
+use super::table::CP_H;
+use super::table::CP_L;
+use super::table::DP_H;
+use super::table::DP_L;
+use super::table::IVLN2;
+use super::table::IVLN2_H;
+use super::table::IVLN2_L;
+use super::table::L1;
+use super::table::L2;
+use super::table::L3;
+use super::table::L4;
+use super::table::L5;
+use super::table::L6;
+use super::table::THIRD;
+use super::table::constant;
+use words::bridge::of_word64;
+
+// s, and its parts s_h and s_l.
+pub struct Ratio {
+    pub s: f64,
+    pub hi: f64,
+    pub lo: f64,
+}
+
+// Compute s = s_h + s_l = (x-1)/(x+1) or (x-1.5)/(x+1.5).
+fn quotient(ax: f64, bp: f64, t_h: f64) -> Ratio
+    ensures { λ r. ⌜ three r ≡ quotientOf double ax bp «t_h» ⌝ }
+{
+    let u = ax - bp;
+    let v = 1.0 / (ax + bp);
+    let s = u * v;
+    if s != s {
+        return Ratio { s, hi: s, lo: s };
+    }
+    let s_h = leading(s);
+    let t_l = ax - (t_h - bp);
+    let s_l = v * ((u - s_h * t_h) - s_h * t_l);
+    Ratio {
+        s,
+        hi: s_h,
+        lo: s_l,
+    }
+}
+
+// Compute log(ax): r.
+fn series(q: Ratio) -> f64
+    ensures { λ r. ⌜ r ≡ seriesOf double (three q) ⌝ }
+{
+    let s2 = q.s * q.s;
+    let r = s2
+        * s2
+        * (constant(L1)
+            + s2
+                * (constant(L2)
+                    + s2
+                        * (constant(L3)
+                            + s2 * (constant(L4) + s2 * (constant(L5) + s2 * constant(L6))))));
+    r + q.lo * (q.hi + q.s)
+}
+
+// p_h + p_l = u + v = s*(1+...).
+fn logarithm(q: Ratio, r: f64) -> Pair
+    ensures { λ r1. ⌜ two r1 ≡ logarithmOf double (three q) r ⌝ }
+{
+    let s2 = q.hi * q.hi;
+    let t = 3.0 + s2 + r;
+    if t != t {
+        return Pair { hi: t, lo: t };
+    }
+    let t_h = leading(t);
+    let t_l = r - ((t_h - 3.0) - s2);
+    let u = q.hi * t_h;
+    let v = q.lo * t_h + t_l * q.s;
+    split(u, v)
+}
+
+// z_h + z_l + dp_h + t in two parts, the first a leading part.
+fn sum(z_h: f64, z_l: f64, dp_h: f64, t: f64) -> Pair
+    ensures { λ r. ⌜ two r ≡ sumOf double «z_h» «z_l» «dp_h» t ⌝ }
+{
+    let s = ((z_h + z_l) + dp_h) + t;
+    if s != s {
+        return Pair { hi: s, lo: s };
+    }
+    let t1 = leading(s);
+    Pair {
+        hi: t1,
+        lo: z_l - (((t1 - t) - dp_h) - z_h),
+    }
+}
+
+// t1 + t2 = log2(ax) = (s+..)*2/(3*log2) = n + dp_h + z_h + z_l.
+fn log2(p: Pair, dp_h: f64, dp_l: f64, t: f64) -> Pair
+    ensures { λ r. ⌜ two r ≡ log2Of double (two p) «dp_h» «dp_l» t ⌝ }
+{
+    let z_h = constant(CP_H) * p.hi;
+    let z_l = constant(CP_L) * p.hi + p.lo * constant(CP) + dp_l;
+    sum(z_h, z_l, dp_h, t)
+}
+
+// The logarithm of any ax.
+fn far(ix: u64) -> Pair
+    ensures { λ r. ⌜ two r ≡ farOf double ix ⌝ }
+{
+    let r = reduce(ix);
+    let k = r.k;
+    let q = quotient(of_word64(r.ix), constant(BP + k), head(r.ix, k));
+    let p = logarithm(q, series(q));
+    log2(p, constant(DP_H + k), constant(DP_L + k), exponent(r.e))
+}
+
+// The logarithm of an ax near 1, by x-x^2/2+x^3/3-x^4/4.
+fn near(ix: u64) -> Pair
+    ensures { λ r. ⌜ two r ≡ nearOf double ix ⌝ }
+{
+    let t = of_word64(ix) - 1.0;
+    let w = (t * t) * (0.5 - t * (constant(THIRD) - t * 0.25));
+    let u = constant(IVLN2_H) * t;
+    let v = t * constant(IVLN2_L) - w * constant(IVLN2);
+    split(u, v)
+}
+
+// The logarithm, by whether |y| is above 2^31.
+pub fn log_of(ix: u64, iy: u32) -> Pair
+    ensures { λ r. ⌜ two r ≡ logOf double ix iy ⌝ }
+{
+    if iy > 0x41e00000 { near(ix) } else { far(ix) }
+}

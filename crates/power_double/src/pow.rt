@@ -1,0 +1,111 @@
+// The open chain as a whole, and the power of every pair.
+ghost use mathlib.Core.Path.{_≡_};
+ghost use Rattle.power.specs.Chain.{overOf, underOf, finishOf, signOf, hugeOf, openOf};
+ghost use Rattle.power.specs.Power.{double, pow64};
+ghost use Rattle.power_double.specs.Parts.{two};
+use super::exponential::exp2;
+use super::exponential::fate_of;
+use super::exponential::product;
+use super::leading::Pair;
+use super::logarithm::log_of;
+use super::table::HUGE;
+use super::table::TINY;
+use super::table::constant;
+use power::answer::Fate;
+use power::answer::Sorted;
+use power::double::sort_powd;
+use words::bridge::of_word64;
+use words::bridge::to_word64;
+
+fn over_flow(sn: f64) -> f64
+    ensures { λ r. ⌜ r ≡ overOf double sn ⌝ }
+{
+    sn * constant(HUGE) * constant(HUGE)
+}
+
+fn under_flow(sn: f64) -> f64
+    ensures { λ r. ⌜ r ≡ underOf double sn ⌝ }
+{
+    sn * constant(TINY) * constant(TINY)
+}
+
+// The chain's end: 2**(p_h + p_l) with the sign.
+fn finish(p: Pair, sn: f64) -> f64
+    ensures { λ r. ⌜ r ≡ finishOf double (two p) sn ⌝ }
+{
+    let f = fate_of(p);
+    match f {
+        Fate::Over => over_flow(sn),
+        Fate::Under => under_flow(sn),
+        Fate::Within => sn * exp2(p),
+    }
+}
+
+// The sign of the result, 1 or -1.
+fn sign(negative: bool) -> f64
+    ensures { λ r. ⌜ r ≡ signOf double negative ⌝ }
+{
+    if negative {
+        of_word64(0xbff0000000000000)
+    } else {
+        1.0
+    }
+}
+
+// The powers to a |y| above 2^64: the result is positive, since such a y is even.
+fn huge(ix: u32, down: bool) -> f64
+    ensures { λ r. ⌜ r ≡ hugeOf double ix down ⌝ }
+{
+    if ix <= 0x3fefffff {
+        if down {
+            over_flow(1.0)
+        } else {
+            under_flow(1.0)
+        }
+    } else {
+        if down {
+            under_flow(1.0)
+        } else {
+            over_flow(1.0)
+        }
+    }
+}
+
+// An open power. Above |y| = 2^31 it over- or underflows, unless x is close to one.
+fn open(x: u64, y: u64, negative: bool) -> u64
+    ensures { λ r. ⌜ r ≡ openOf double x y negative ⌝ }
+{
+    let sn = sign(negative);
+    let ax = x & 0x7fffffffffffffff;
+    let ix = (ax >> 32) as u32;
+    let iy = ((y & 0x7fffffffffffffff) >> 32) as u32;
+    if iy > 0x41e00000 {
+        if iy > 0x43f00000 {
+            return to_word64(huge(ix, y >= 0x8000000000000000));
+        }
+        if ix < 0x3fefffff {
+            if y >= 0x8000000000000000 {
+                return to_word64(over_flow(sn));
+            }
+            return to_word64(under_flow(sn));
+        }
+        if ix > 0x3ff00000 {
+            if y >= 0x8000000000000000 {
+                return to_word64(under_flow(sn));
+            }
+            return to_word64(over_flow(sn));
+        }
+    }
+    to_word64(finish(product(of_word64(y), log_of(ax, iy)), sn))
+}
+
+// x to the y.
+pub fn powd(x: u64, y: u64) -> u64
+    ensures { λ r. ⌜ r ≡ pow64 x y ⌝ }
+{
+    let s = sort_powd(x, y);
+    match s {
+        Sorted::Settled(w) => w,
+        Sorted::Open(negative) => open(x, y, negative),
+    }
+}

@@ -1,0 +1,23 @@
+use Prim.Native.Nat.{_-_}
+use borrow.Author.Tests.{lt-ltb, le-ltb}
+use Rattle.power.specs.Chain.{logOf}
+use borrow.Author.Needs.{needs}
+use Rattle.power_single.proofs.logarithm.log_of.Statement.{statement}
+use Rattle.power_single.proofs.logarithm.log_of.Tie as tie
+
+near-requires : tie.Need-near-requires
+near-requires c κs = search needs
+
+far-requires : tie.Need-far-requires
+far-requires c κs = search needs
+
+returns : tie.Need-returns
+unfolding logOf
+returns c = simp (lt-ltb _ _ (c .before .if1 .taken), c .near .ensures)
+
+returns-2 : tie.Need-returns-2
+unfolding logOf
+returns-2 c = simp (le-ltb _ _ (c .before .if1 .left), c .far .ensures)
+
+pub log-of-spec : {M : Type 1} → statement M
+log-of-spec = tie.close (tie.spec near-requires far-requires returns returns-2)

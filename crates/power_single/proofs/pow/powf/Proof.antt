@@ -1,0 +1,42 @@
+use Prim.Native.Nat.{_-_}
+use mathlib.Core.Path.{sym, ap, _∙_}
+use lib.Ieee.{binary32}
+use Rattle.power.specs.Power.{single}
+use Rattle.power.proofs.Cases.{chosen, pow-chosen}
+use Rattle.power.proofs.Fits.{settled-word}
+use borrow.Author.Needs.{needs}
+use Rattle.power_single.proofs.pow.powf.Statement.{statement}
+use Rattle.power_single.proofs.pow.powf.Tie as tie
+
+sort-powf-requires : tie.Need-sort-powf-requires
+sort-powf-requires c κs = search needs
+
+enum-known-s : tie.Need-enum-known-s
+enum-known-s c = search needs
+
+cast-result : tie.Need-cast-result
+cast-result c = record { fits = settled-word binary32 (c .before .before .before .before .args .x) (c .before .before .before .before .args .y) (c .before .before .before .sort-powf .result) _ (c .before .s .given .1) (c .before .before .before .sort-powf .ensures) (c .before .before .before .before .fits .x .fits) }
+
+enum-known-s-2 : tie.Need-enum-known-s-2
+enum-known-s-2 c = search needs
+
+open-requires : tie.Need-open-requires
+open-requires c κs = search needs
+
+returns : tie.Need-returns
+returns c = ap (chosen single (c .before .before .before .before .args .x) (c .before .before .before .before .args .y)) (sym (c .before .s .given .1)) ∙ pow-chosen single (c .before .before .before .before .args .x) (c .before .before .before .before .args .y) (c .before .before .before .sort-powf .result) (c .before .before .before .sort-powf .ensures)
+
+returns-2 : tie.Need-returns-2
+returns-2 c = c .«open» .ensures ∙ ap (chosen single (c .before .before .before .before .before .args .x) (c .before .before .before .before .before .args .y)) (sym (c .before .before .s2 .given .1)) ∙ pow-chosen single (c .before .before .before .before .before .args .x) (c .before .before .before .before .before .args .y) (c .before .before .before .before .sort-powf .result) (c .before .before .before .before .sort-powf .ensures)
+
+pub powf-spec : {M : Type 1} → statement M
+powf-spec =
+    tie.close
+    (tie.spec
+    sort-powf-requires
+    enum-known-s
+    cast-result
+    enum-known-s-2
+    open-requires
+    returns
+    returns-2)
