@@ -6,10 +6,18 @@ ghost use Rattle.words.specs.Answers.{answered};
 ghost use Rattle.root.specs.Root.{rootWord};
 ghost use Rattle.root.specs.Partial.{partialRoot};
 ghost use Rattle.scale.specs.Scale.{scaled};
+ghost use lib.Ieee as Ieee;
+ghost use Rattle.power.specs.Power.{pow32, pow64};
+ghost use Rattle.power.specs.Sorting.{sorted, toldSettled, toldOpen};
+ghost use Rattle.igholmaz.specs.Face.{laid};
 ghost use Rattle.batch.specs.Batches.{Mapped, Zipped};
 use batch::outcome::Batch;
 use root::partial::PartialRoot;
+use sorting::SortedPower;
+use sorting::laid_out;
 use words::answer::Answer;
+
+mod sorting;
 
 #[no_mangle]
 pub extern "C" fn igholmaz_fabsf(x: u32) -> u32
@@ -93,4 +101,32 @@ pub extern "C" fn igholmaz_scalbnd_batch(xs: &[u64], ns: &[i32], out: &mut [u64]
     ensures { λ r. ⌜ Zipped (scaled binary64) (now (xs .entry)) (now (ns .entry)) (now (out .entry)) (now (out .exit)) r ⌝ }
 {
     batch::double::scalbnd_batch(xs, ns, out)
+}
+
+#[no_mangle]
+pub extern "C" fn igholmaz_sort_powf(x: u32, y: u32) -> SortedPower
+    ensures { λ r. ⌜ r ≡ laid (sorted toldSettled toldOpen Ieee.binary32 x y) ⌝ }
+{
+    laid_out(power::single::sort_powf(x, y))
+}
+
+#[no_mangle]
+pub extern "C" fn igholmaz_powf(x: u32, y: u32) -> u32
+    ensures { λ r. ⌜ r ≡ pow32 x y ⌝ }
+{
+    power_single::pow::powf(x, y)
+}
+
+#[no_mangle]
+pub extern "C" fn igholmaz_sort_powd(x: u64, y: u64) -> SortedPower
+    ensures { λ r. ⌜ r ≡ laid (sorted toldSettled toldOpen Ieee.binary64 x y) ⌝ }
+{
+    laid_out(power::double::sort_powd(x, y))
+}
+
+#[no_mangle]
+pub extern "C" fn igholmaz_powd(x: u64, y: u64) -> u64
+    ensures { λ r. ⌜ r ≡ pow64 x y ⌝ }
+{
+    power_double::pow::powd(x, y)
 }
