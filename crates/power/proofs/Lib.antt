@@ -4,3 +4,4 @@ pub mod Cases
 pub mod Nan
 pub mod Fits
 pub mod Exponent
+pub mod Unsettled

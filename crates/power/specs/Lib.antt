@@ -6,3 +6,4 @@ pub mod Places
 pub mod Table32
 pub mod Table64
 pub mod Power
+pub mod Plain

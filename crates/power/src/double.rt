@@ -6,6 +6,7 @@ ghost use Rattle.power.specs.Sorting.{over, square, sorted5, sorted, tol
 use super::answer::Sorted;
 use super::edge::infinite;
 use super::edge::sort_rest;
+use super::plain::plain64;
 use root::double::root64;
 use words::bridge::of_word64;
 use words::bridge::to_word64;
@@ -53,8 +54,8 @@ fn sort_from5_64(x: u64, y: u64) -> Sorted
     )
 }
 
-// The pair settled, with the result's word, or open, with the result's sign.
-pub fn sort_powd(x: u64, y: u64) -> Sorted
+// From rule 1 on: all seven rules.
+fn sort_from1_64(x: u64, y: u64) -> Sorted
     ensures { λ r. ⌜ told r ≡ sorted toldSettled toldOpen Ieee.binary64 x y ⌝ }
 {
     let ix = x & 0x7fffffffffffffff;
@@ -75,4 +76,15 @@ pub fn sort_powd(x: u64, y: u64) -> Sorted
         return Sorted::Settled(infinite(53, 1023, ix, y >= 0x8000000000000000));
     }
     sort_from5_64(x, y)
+}
+
+// The pair settled, with the result's word, or open, with the result's sign. A plain pair is open
+// at once; the rules are tried on the others.
+pub fn sort_powd(x: u64, y: u64) -> Sorted
+    ensures { λ r. ⌜ told r ≡ sorted toldSettled toldOpen Ieee.binary64 x y ⌝ }
+{
+    if plain64(x, y) {
+        return Sorted::Open(false);
+    }
+    sort_from1_64(x, y)
 }

@@ -5,5 +5,6 @@ pub mod double;
 pub mod edge;
 pub mod kind;
 pub mod marks;
+pub mod plain;
 pub mod signed;
 pub mod single;

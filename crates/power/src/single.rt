@@ -6,6 +6,7 @@ ghost use Rattle.power.specs.Sorting.{over, square, sorted5, sorted, tol
 use super::answer::Sorted;
 use super::edge::infinite;
 use super::edge::sort_rest;
+use super::plain::plain32;
 use root::single::root32;
 use words::bridge::of_word32;
 use words::bridge::to_word32;
@@ -53,8 +54,8 @@ fn sort_from5_32(x: u32, y: u32) -> Sorted
     )
 }
 
-// The pair settled, with the result's word, or open, with the result's sign.
-pub fn sort_powf(x: u32, y: u32) -> Sorted
+// From rule 1 on: all seven rules.
+fn sort_from1_32(x: u32, y: u32) -> Sorted
     ensures { λ r. ⌜ told r ≡ sorted toldSettled toldOpen Ieee.binary32 x y ⌝ }
 {
     let ix = x & 0x7fffffff;
@@ -75,4 +76,15 @@ pub fn sort_powf(x: u32, y: u32) -> Sorted
         return Sorted::Settled(infinite(24, 127, ix as u64, y >= 0x80000000));
     }
     sort_from5_32(x, y)
+}
+
+// The pair settled, with the result's word, or open, with the result's sign. A plain pair is open
+// at once; the rules are tried on the others.
+pub fn sort_powf(x: u32, y: u32) -> Sorted
+    ensures { λ r. ⌜ told r ≡ sorted toldSettled toldOpen Ieee.binary32 x y ⌝ }
+{
+    if plain32(x, y) {
+        return Sorted::Open(false);
+    }
+    sort_from1_32(x, y)
 }
