@@ -1,7 +1,7 @@
 // A question's operands: words in hexadecimal, in either case and with or without 0x before them,
 // and numbers in decimal.
 ghost use mathlib.Core.Path.{_≡_};
-ghost use Prim.Native.Nat.{_≤_};
+ghost use Prim.Native.Nat.{_%_, _≤_};
 ghost use lib.ListN.{length};
 ghost use Rattle.ask.specs.Text.{digitsStart, readWord, readUnsigned, readSigned, within, negated};
 use super::number::Read;
@@ -80,4 +80,11 @@ pub fn signed(s: &[u8]) -> Read
         return negative(number(&s[1..], 10));
     }
     at_most(number(s, 10), 2147483647)
+}
+
+// The low 32 bits.
+pub fn low(x: u64) -> u32
+    ensures { λ r. ⌜ r ≡ x % 4294967296 ⌝ }
+{
+    (x % 4294967296) as u32
 }

@@ -14,3 +14,7 @@ rootOf f r = rootWord f (wordOf r)
 -- x times 2 ^ n, n an i32 after x
 abbrev pub scaledOf : Format → ℕ → List ℕ → ℕ
 scaledOf f k r = scaled f (wordOf (take k r)) (signedOf (wordOf (drop k r)))
+
+-- x to the y, y after x, for the power of a width
+abbrev pub powerOf : (ℕ → ℕ → ℕ) → ℕ → List ℕ → ℕ
+powerOf pow k r = pow (wordOf (take k r)) (wordOf (drop k r))
