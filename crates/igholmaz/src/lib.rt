@@ -130,3 +130,17 @@ pub extern "C" fn igholmaz_powd(x: u64, y: u64) -> u64
 {
     power_double::pow::powd(x, y)
 }
+
+#[no_mangle]
+pub extern "C" fn igholmaz_powf_batch(xs: &[u32], ys: &[u32], out: &mut [u32]) -> Batch
+    ensures { λ r. ⌜ Zipped pow32 (now (xs .entry)) (now (ys .entry)) (now (out .entry)) (now (out .exit)) r ⌝ }
+{
+    batch::single::powf_batch(xs, ys, out)
+}
+
+#[no_mangle]
+pub extern "C" fn igholmaz_powd_batch(xs: &[u64], ys: &[u64], out: &mut [u64]) -> Batch
+    ensures { λ r. ⌜ Zipped pow64 (now (xs .entry)) (now (ys .entry)) (now (out .entry)) (now (out .exit)) r ⌝ }
+{
+    batch::double::powd_batch(xs, ys, out)
+}
