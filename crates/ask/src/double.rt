@@ -1,15 +1,15 @@
 // Questions about f64 words: each takes its operands as text and prints the answer.
+use super::operand::low;
+use super::operand::signed;
+use super::operand::unsigned;
+use super::operand::word;
+use super::print;
 use power::double::sort_powd;
 use power_double::pow::powd;
 use root::double::partial_sqrtd;
 use root::double::sqrtd;
 use scale::double::scalbnd;
 use stream::bytes::signed4;
-use super::operand::low;
-use super::operand::signed;
-use super::operand::unsigned;
-use super::operand::word;
-use super::print;
 use words::fabs::fabsd;
 
 fn not_a_word() {

@@ -7,15 +7,17 @@ mod number;
 mod operand;
 mod print;
 mod single;
+
 use name::Name;
 use name::name_of;
 
-// How many operands a name takes; 0 for a name that is none.
-fn operands_of(name: Name) -> usize {
+// How many arguments a question of a name has, the program's own name among them; 0 for a name
+// that is none.
+fn arguments_of(name: Name) -> usize {
     match name {
         Name::Unknown => 0,
-        Name::Fabsf | Name::Fabsd | Name::Sqrtf | Name::Sqrtd => 1,
-        _ => 2,
+        Name::Fabsf | Name::Fabsd | Name::Sqrtf | Name::Sqrtd => 3,
+        _ => 4,
     }
 }
 
@@ -46,7 +48,8 @@ fn main() {
     let mut text = [0u8; 32];
     let n = os::arg(1, &mut text);
     let name = name_of(&text[..n]);
-    if count != operands_of(name) + 2 && operands_of(name) > 0 {
+    let wanted = arguments_of(name);
+    if wanted > 0 && count != wanted {
         print::usage(b"ask: not as many operands as the name takes\n");
         return;
     }

@@ -72,7 +72,8 @@ pub fn sorting(s: Sorted, digits: usize) {
 // How to ask, after a line that says what is wrong.
 pub fn usage(wrong: &[u8]) {
     text(wrong);
-    text(b"usage: ask NAME OPERAND..
+    text(
+        b"usage: ask NAME OPERAND..
   ask fabsf X               ask fabsd X
   ask scalbnf X N           ask scalbnd X N
   ask sqrtf X               ask sqrtd X
@@ -81,5 +82,6 @@ pub fn usage(wrong: &[u8]) {
   ask powf X Y              ask powd X Y
 X and Y are words: 8 hexadecimal digits for f, 16 for d, in either case, with or without 0x.
 N is a decimal i32, K a decimal u32.
-");
+",
+    );
 }

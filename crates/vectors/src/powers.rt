@@ -1,9 +1,9 @@
 // Every word to the power of every word, a line for each x.
+use super::print;
 use power_double::pow::powd;
 use power_single::pow::powf;
 use samples::DOUBLES;
 use samples::SINGLES;
-use super::print;
 
 fn single(x: u32, y: u32) {
     print::text(b" ");

@@ -2,7 +2,6 @@
 use Prim.Native.Nat.{ℕ, _*_, _%_, _≤_, _<_}
 use native.Mathlib.Omega.{arith}
 use native.Mathlib.Nat.{mul-le-mul-left}
-use borrow.Author.Needs.{needs}
 use Rattle.second_root.proofs.bisect.product.Statement.{statement}
 use Rattle.second_root.proofs.bisect.product.Tie as tie
 
