@@ -2,9 +2,9 @@
 use Prim.Native.Nat.{ℕ, suc, _+_, _-_, _*_, _/_, _%_, _^_, _<_, _≤_}
 use mathlib.Core.Path.{_≡_, sym, ap, _∙_, subst}
 use lib.Bits.{bitAnd, bitOr, and-mask, and-high, or-shifted-r}
-use native.Mathlib.Nat.{mod-lt, mod-eq-of-lt, mul-comm, one-mul}
+use native.Mathlib.Nat.{mod-lt, mod-eq-of-lt, lt-of-lt-of-le, mul-comm, one-mul}
 use native.Mathlib.Omega.{arith}
-use lib.Pow.{shr-mod, pow-pos, ones-split, ones-lt, high}
+use lib.Pow.{shr-mod, shr-lt, pow-pos, pow-mono, ones-split, ones-lt, high}
 use Rattle.words.specs.Format.{format, top}
 use Rattle.words.specs.Rounding.{Held}
 use Rattle.words.proofs.Digits.{room}
@@ -38,6 +38,11 @@ unmask p k w n hk hw hn =
     ap (λ (q : ℕ). (2 ^ q - 1) / 2 ^ k) low ∙ ap (λ (x : ℕ). x / 2 ^ k) (ones-split d k) ∙ high (2 ^ d - 1) k (ones-lt k) in
     let mask : (2 ^ w - 1) - (2 ^ p - 1) / 2 ^ k ≡ 2 ^ (w - d + d) - 2 ^ d = omega (arith, ones, pow-pos d, ap (λ (q : ℕ). 2 ^ q) all) in
     ap (bitAnd n) mask ∙ cut (w - d) d n (subst (λ (q : ℕ). n < 2 ^ q) all hn)
+
+-- a number of p + 1 digits, of which k + 1 stay, k at most m
+pub kept-lt : (p m k d : ℕ) → m ≤ p → k ≤ m → d < 2 ^ (p + 1) → d / 2 ^ (p - k) < 2 ^ (m + 1)
+kept-lt p m k d hm hk hd =
+    lt-of-lt-of-le (shr-lt (k + 1) (p - k) (subst (λ (n : ℕ). d < 2 ^ n) (omega arith) hd)) (pow-mono {i = k + 1} {j = m + 1} (omega arith))
 
 -- ---- a format that 64 bits hold
 

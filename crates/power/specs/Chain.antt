@@ -1,9 +1,9 @@
 -- The open power: the Rust's float operations in their order, one rounding each, none fused. Definitions only, one text for both widths.
 -- The names are the Rust's, with - for _. x ⊕ y, x ⊖ y, x ⊗ y and x ⊘ y are IEEE 754's four operations in the width's format.
 use Prim.Native.Nat.{ℕ, _+_, _-_, _*_, _/_, _%_, _^_}
-use mathlib.Core.Bool.{Bool, false, _&&_, _||_, cond}
+use mathlib.Core.Bool.{Bool, _&&_, _||_, cond}
 use lib.Dec.{leb, ltb, eqb}
-use lib.IntN.{pos, negℤ, subℕ}
+use lib.IntN.{subℕ}
 use lib.ListN.{getD}
 use lib.Ieee.{Float, add, sub, mul, div, lt, le, toBits, ofBits, ofInt, hid, top, emax, prec}
 use Rattle.words.specs.Format.{ours, one, signed, magnitude, negative}
@@ -183,14 +183,17 @@ module _ (w : Width) where
       let r = (z ⊗ t1) ⊘ (t1 ⊖ #2) ⊖ (q .lo ⊕ z ⊗ q .lo) in
       #1 ⊖ (r ⊖ z)
 
-  -- j += n << 20 or 23: n goes to the exponent's field; a subnormal output is scaled
-  unfoldable pub raisedOf : Float → Bool → ℕ → Float
-  raisedOf z down n =
+  -- j += n << 23 or 20, and a subnormal output is scaled. n is e less `whole`, 512 or 4096: shifted, that is a whole turn of j
+  abbrev pub whole : ℕ
+  whole = 4 * (emax (w .format) + 1)
+
+  unfoldable pub raisedOf : Float → ℕ → Float
+  raisedOf z e =
       let h = hid (w .format) / 2 ^ w .below in
       let s = top (w .format) / 2 ^ w .below in
       let x = toBits (w .format) z in
-      let j = cond down (x / 2 ^ w .below + (2 * s - n * h % (2 * s))) (x / 2 ^ w .below + n * h) % (2 * s) in
-      cond (leb s j || ltb j h) (z ⊗ power (cond down (negℤ (pos n)) (pos n))) (at (j * 2 ^ w .below + x % 2 ^ w .below))
+      let j = (x / 2 ^ w .below + e * h) % (2 * s) in
+      cond (leb s j || ltb j h) (z ⊗ power (subℕ e whole)) (at (j * 2 ^ w .below + x % 2 ^ w .below))
 
   unfoldable pub exp2Of : Two → Float
   exp2Of p =
@@ -198,8 +201,8 @@ module _ (w : Width) where
       let j = toBits (w .format) (p .lo ⊕ p .hi) / 2 ^ w .below in
       let n = nearestOf j in
       cond (ltb ((one (ours (w .format)) - hid (w .format)) / 2 ^ w .below) (j % s))
-      (raisedOf (exponentialOf (partsOf (record { hi = p .hi ⊖ n .float; lo = p .lo }))) (leb s j) (n .size))
-      (raisedOf (exponentialOf (partsOf p)) false 0)
+      (raisedOf (exponentialOf (partsOf (record { hi = p .hi ⊖ n .float; lo = p .lo }))) (cond (leb s j) (whole - n .size) (whole + n .size)))
+      (raisedOf (exponentialOf (partsOf p)) whole)
 
   -- ---- the whole, with the result's sign sn
 

@@ -34,6 +34,9 @@ square f x = Ieee.toBits f (Ieee.mul f (Ieee.ofBits f x) (Ieee.ofBits f x))
 unfoldable pub turned : Format → ℕ → Bool → ℕ
 turned f m down = cond down (cond (eqb m 0) (infinity f) (cond (eqb m (infinity f)) 0 m)) m
 
+abbrev pub onEdge : Format → ℕ → Bool
+onEdge f ix = eqb ix (infinity f) || (eqb ix 0 || eqb ix (one f))
+
 -- with its sign: by the sizes of x and y, and whether each is negative
 unfoldable pub atEdge : Format → ℕ → Bool → ℕ → Bool → ℕ
 atEdge f ix minus iy down =
@@ -49,7 +52,7 @@ module _ {R : Type 0} (settled : ℕ → R) (unsettled : Bool → R) where
   -- from rule 6 on
   unfoldable pub sorted6 : Format → ℕ → Bool → ℕ → Bool → R
   sorted6 f ix minus iy down =
-      cond (eqb ix (infinity f) || (eqb ix 0 || eqb ix (one f))) (settled (atEdge f ix minus iy down)) (sorted7 f minus iy)
+      cond (onEdge f ix) (settled (atEdge f ix minus iy down)) (sorted7 f minus iy)
 
   -- from rule 5 on: y is 1, -1, 2, 0.5
   unfoldable pub sorted5 : Ieee.Format → ℕ → ℕ → R

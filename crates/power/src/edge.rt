@@ -1,10 +1,11 @@
 // Rules 4, 6 and 7 of the sorting, by sizes and signs, in the format of p digits and largest
 // exponent emax. A sign is true for negative: `minus` is that of x, `down` that of y.
 ghost use mathlib.Core.Path.{_≡_};
+ghost use mathlib.Core.Bool.{true};
 ghost use Prim.Native.Nat.{_<_};
 ghost use Rattle.words.specs.Format.{format, top};
 ghost use Rattle.words.specs.Rounding.{Held};
-ghost use Rattle.power.specs.Sorting.{atInfinity, turned, atEdge, sorted6, told, toldSettled, toldOpen};
+ghost use Rattle.power.specs.Sorting.{atInfinity, turned, atEdge, onEdge, sorted7, told, toldSettled, toldOpen};
 use super::answer::Sorted;
 use super::kind::kind_of;
 use super::marks::infinity_of;
@@ -47,7 +48,7 @@ fn turn(p: u64, emax: u64, ix: u64, down: bool) -> u64
 }
 
 // Rule 6 with its sign.
-fn edge(p: u64, emax: u64, ix: u64, minus: bool, iy: u64, down: bool) -> u64
+pub fn edge(p: u64, emax: u64, ix: u64, minus: bool, iy: u64, down: bool) -> u64
     requires { ⌜ (Held p emax) × (ix < top (format p emax)) × (0 < iy) ⌝ }
     ensures { λ r. ⌜ r ≡ atEdge (format p emax) ix minus iy down ⌝ }
 {
@@ -67,23 +68,25 @@ fn edge(p: u64, emax: u64, ix: u64, minus: bool, iy: u64, down: bool) -> u64
     z
 }
 
-// Rules 6 and 7, and the open pairs.
-pub fn sort_rest(p: u64, emax: u64, ix: u64, minus: bool, iy: u64, down: bool) -> Sorted
-    requires { ⌜ (Held p emax) × (ix < top (format p emax)) × (0 < iy) ⌝ }
-    ensures { λ r. ⌜ told r ≡ sorted6 toldSettled toldOpen (format p emax) ix minus iy down ⌝ }
+// Whether rule 6 is x's: its size is infinite, 0 or 1.
+pub fn is_edge(p: u64, emax: u64, ix: u64) -> bool
+    requires { ⌜ Held p emax ⌝ }
+    ensures { λ r. ⌜ r ≡ onEdge (format p emax) ix ⌝ }
 {
     if ix == infinity_of(p, emax) {
-        return Sorted::Settled(edge(p, emax, ix, minus, iy, down));
+        return true;
     }
     if ix == 0 {
-        return Sorted::Settled(edge(p, emax, ix, minus, iy, down));
+        return true;
     }
-    if ix == one_of(p, emax) {
-        return Sorted::Settled(edge(p, emax, ix, minus, iy, down));
-    }
-    if !minus {
-        return Sorted::Open(false);
-    }
+    ix == one_of(p, emax)
+}
+
+// Rule 7, and the open pairs, for a negative x.
+pub fn sort_minus(p: u64, emax: u64, iy: u64) -> Sorted
+    requires { ⌜ (Held p emax) × (0 < iy) ⌝ }
+    ensures { λ r. ⌜ told r ≡ sorted7 toldSettled toldOpen (format p emax) true iy ⌝ }
+{
     let k = kind_of(p, emax, iy);
     if !k.whole {
         return Sorted::Settled(quiet_of(p, emax));

@@ -6,5 +6,5 @@ pub mod edge;
 pub mod kind;
 pub mod marks;
 pub mod plain;
-pub mod signed;
 pub mod single;
+pub mod unbiased;

@@ -2,10 +2,13 @@
 ghost use mathlib.Core.Path.{_≡_};
 ghost use Prim.Native.Nat.{_<_, _%_, _^_};
 ghost use lib.Ieee as Ieee;
-ghost use Rattle.power.specs.Sorting.{over, square, sorted5, sorted, told, toldSettled, toldOpen};
+ghost use Rattle.words.specs.Format.{binary32, negative};
+ghost use Rattle.power.specs.Sorting.{over, square, sorted6, sorted5, sorted, told, toldSettled, toldOpen};
 use super::answer::Sorted;
+use super::edge::edge;
 use super::edge::infinite;
-use super::edge::sort_rest;
+use super::edge::is_edge;
+use super::edge::sort_minus;
 use super::plain::plain32;
 use root::single::root32;
 use words::bridge::of_word32;
@@ -23,6 +26,22 @@ fn square32(x: u32) -> u32
     ensures { λ r. ⌜ r ≡ square Ieee.binary32 x ⌝ }
 {
     to_word32(of_word32(x) * of_word32(x))
+}
+
+// From rule 6 on: x is 0, infinite or 1; x is negative; or x is positive and the pair is open.
+fn sort_from6_32(x: u32, y: u32) -> Sorted
+    requires { ⌜ 0 < y % 2 ^ 31 ⌝ }
+    ensures { λ r. ⌜ told r ≡ sorted6 toldSettled toldOpen binary32 (x % 2 ^ 31) (negative binary32 x) (y % 2 ^ 31) (negative binary32 y) ⌝ }
+{
+    let ix = (x & 0x7fffffff) as u64;
+    let iy = (y & 0x7fffffff) as u64;
+    if is_edge(24, 127, ix) {
+        return Sorted::Settled(edge(24, 127, ix, x >= 0x80000000, iy, y >= 0x80000000));
+    }
+    if x < 0x80000000 {
+        return Sorted::Open(false);
+    }
+    sort_minus(24, 127, iy)
 }
 
 // From rule 5 on: y is 1, -1, 2, or 0.5 with the sign of x clear.
@@ -44,14 +63,7 @@ fn sort_from5_32(x: u32, y: u32) -> Sorted
             return Sorted::Settled(root32(x) as u64);
         }
     }
-    sort_rest(
-        24,
-        127,
-        (x & 0x7fffffff) as u64,
-        x >= 0x80000000,
-        (y & 0x7fffffff) as u64,
-        y >= 0x80000000,
-    )
+    sort_from6_32(x, y)
 }
 
 // From rule 1 on: all seven rules.

@@ -20,7 +20,7 @@ use super::table::P4;
 use super::table::P5;
 use super::table::constant;
 use power::answer::Fate;
-use power::signed::signed;
+use power::unbiased::unbiased;
 use scale::double::scale64;
 use words::bridge::to_word64;
 
@@ -80,7 +80,7 @@ pub struct Whole {
 fn nearest_to(j: u32) -> Whole
     requires { ⌜ (0x3fe00000 < j % 2 ^ 31) × (j % 2 ^ 31 ≤ 0x4090cc00) ⌝ }
     ensures { λ r. ⌜ nearest r ≡ nearestOf double j ⌝ }
-    ensures { λ r. ⌜ r .size < 2 ^ 31 ⌝ }
+    ensures { λ r. ⌜ r .size < 4096 ⌝ }
 {
     let i = j & 0x7fffffff;
     let n = j + (0x00100000 >> ((i >> 20) - 1022));
@@ -124,21 +124,17 @@ fn exponential(q: Pair) -> f64
     1.0 - (r - z)
 }
 
-// z * 2^n, or z * 2^-n where `down`: n goes to the exponent's field; a subnormal output is scaled.
-fn raised(z: f64, down: bool, n: u32) -> f64
-    requires { ⌜ n < 2 ^ 31 ⌝ }
-    ensures { λ r. ⌜ r ≡ raisedOf double z down n ⌝ }
+// z * 2^n, n being e - 4096: n goes to the exponent's field; a subnormal output is scaled.
+fn raised(z: f64, e: u32) -> f64
+    requires { ⌜ e < 8192 ⌝ }
+    ensures { λ r. ⌜ r ≡ raisedOf double z e ⌝ }
 {
-    let j = if down {
-        std::num::wrapping_sub_u32(get_high_word(z), n << 20)
-    } else {
-        std::num::wrapping_add_u32(get_high_word(z), n << 20)
-    };
+    let j = std::num::wrapping_add_u32(get_high_word(z), e << 20);
     if j >= 0x80000000 {
-        return scale64(z, signed(down, n));
+        return scale64(z, unbiased(e, 4096));
     }
     if j < 0x00100000 {
-        return scale64(z, signed(down, n));
+        return scale64(z, unbiased(e, 4096));
     }
     with_set_high_word(z, j)
 }
@@ -155,8 +151,13 @@ pub fn exp2(p: Pair) -> f64
             hi: p.hi - n.float,
             lo: p.lo,
         };
-        raised(exponential(parts(q)), j >= 0x80000000, n.size)
+        let e = if j >= 0x80000000 {
+            4096 - n.size
+        } else {
+            4096 + n.size
+        };
+        raised(exponential(parts(q)), e)
     } else {
-        raised(exponential(parts(p)), false, 0)
+        raised(exponential(parts(p)), 4096)
     }
 }

@@ -6,6 +6,7 @@ ghost use Rattle.power.specs.Power.{double};
 ghost use Rattle.power_double.specs.Parts.{reduction};
 use super::table::TWO53;
 use super::table::constant;
+use power::unbiased::unbiased;
 use words::bridge::of_word64;
 use words::bridge::to_word64;
 
@@ -13,17 +14,17 @@ use words::bridge::to_word64;
 pub struct Reduced {
     pub ix: u64,
     pub k: usize,
-    pub e: u64,
+    pub e: u32,
 }
 
 // Determine the interval: |x| < sqrt(3/2), |x| < sqrt(3), or above, where z is halved.
-fn interval(ix: u64, e: u64) -> Reduced
+fn interval(ix: u64, e: u32) -> Reduced
     requires { ⌜ e ≤ 53 ⌝ }
     ensures { λ r. ⌜ reduction r ≡ intervalOf double ix e ⌝ }
     ensures { λ r. ⌜ (r .ix < 2 ^ 62) × (r .k < 2) × (r .e < e + 4200) ⌝ }
 {
     let j = ix & 0x000fffffffffffff;
-    let n = e + (ix >> 52);
+    let n = e + ((ix >> 52) as u32);
     let ix = j | 0x3ff0000000000000;
     if j < 0x3988f00000000 {
         Reduced { ix, k: 0, e: n }
@@ -64,10 +65,10 @@ pub fn head(ix: u64, k: usize) -> f64
 }
 
 // n = e - 1076 as a float.
-pub fn exponent(e: u64) -> f64
+pub fn exponent(e: u32) -> f64
     requires { ⌜ e < 8192 ⌝ }
     ensures { λ r. ⌜ r ≡ exponentOf double e ⌝ }
 {
-    let n = (e as i32) - 1076;
+    let n = unbiased(e, 1076);
     n as f64
 }

@@ -19,7 +19,7 @@ use super::table::P4;
 use super::table::P5;
 use super::table::constant;
 use power::answer::Fate;
-use power::signed::signed;
+use power::unbiased::unbiased;
 use scale::single::scale32;
 use words::bridge::of_word32;
 use words::bridge::to_word32;
@@ -80,7 +80,7 @@ pub struct Whole {
 fn nearest_to(j: u32) -> Whole
     requires { ⌜ (0x3f000000 < j % 2 ^ 31) × (j % 2 ^ 31 ≤ 0x43160000) ⌝ }
     ensures { λ r. ⌜ nearest r ≡ nearestOf single j ⌝ }
-    ensures { λ r. ⌜ r .size < 2 ^ 31 ⌝ }
+    ensures { λ r. ⌜ r .size < 512 ⌝ }
 {
     let i = j & 0x7fffffff;
     let n = j + (0x00800000 >> ((i >> 23) - 126));
@@ -124,21 +124,17 @@ fn exponential(q: Pair) -> f32
     1.0 - (r - z)
 }
 
-// z * 2^n, or z * 2^-n where `down`: n goes to the exponent's field; a subnormal output is scaled.
-fn raised(z: f32, down: bool, n: u32) -> f32
-    requires { ⌜ n < 2 ^ 31 ⌝ }
-    ensures { λ r. ⌜ r ≡ raisedOf single z down n ⌝ }
+// z * 2^n, n being e - 512: n goes to the exponent's field; a subnormal output is scaled.
+fn raised(z: f32, e: u32) -> f32
+    requires { ⌜ e < 8192 ⌝ }
+    ensures { λ r. ⌜ r ≡ raisedOf single z e ⌝ }
 {
-    let j = if down {
-        std::num::wrapping_sub_u32(to_word32(z), n << 23)
-    } else {
-        std::num::wrapping_add_u32(to_word32(z), n << 23)
-    };
+    let j = std::num::wrapping_add_u32(to_word32(z), e << 23);
     if j >= 0x80000000 {
-        return scale32(z, signed(down, n));
+        return scale32(z, unbiased(e, 512));
     }
     if j < 0x00800000 {
-        return scale32(z, signed(down, n));
+        return scale32(z, unbiased(e, 512));
     }
     of_word32(j)
 }
@@ -155,8 +151,13 @@ pub fn exp2(p: Pair) -> f32
             hi: p.hi - n.float,
             lo: p.lo,
         };
-        raised(exponential(parts(q)), j >= 0x80000000, n.size)
+        let e = if j >= 0x80000000 {
+            512 - n.size
+        } else {
+            512 + n.size
+        };
+        raised(exponential(parts(q)), e)
     } else {
-        raised(exponential(parts(p)), false, 0)
+        raised(exponential(parts(p)), 512)
     }
 }

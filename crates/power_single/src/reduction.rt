@@ -6,6 +6,7 @@ ghost use Rattle.power.specs.Power.{single};
 ghost use Rattle.power_single.specs.Parts.{reduction};
 use super::table::TWO24;
 use super::table::constant;
+use power::unbiased::unbiased;
 use words::bridge::of_word32;
 use words::bridge::to_word32;
 
@@ -68,6 +69,6 @@ pub fn exponent(e: u32) -> f32
     requires { ⌜ e < 8192 ⌝ }
     ensures { λ r. ⌜ r ≡ exponentOf single e ⌝ }
 {
-    let n = (e as i32) - 151;
+    let n = unbiased(e, 151);
     n as f32
 }

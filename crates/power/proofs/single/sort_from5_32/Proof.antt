@@ -2,11 +2,9 @@ use mathlib.Core.Path.{refl, _∙_}
 use borrow.Author.Tests.{le-leb, lt-leb, eq-eqb, ne-eqb}
 use mathlib.Core.Logic.{⊎-elim}
 use Prim.Native.Nat.{_-_}
-use native.Mathlib.Omega.{arith}
 use lib.Ieee.{binary32}
 use Rattle.power.specs.Sorting.{sorted5, toldSettled, toldOpen}
 use Rattle.power.proofs.Cases.{past5}
-use Rattle.power.proofs.Words.{size32, held32}
 use borrow.Author.Needs.{needs}
 use Rattle.power.proofs.single.sort_from5_32.Statement.{statement}
 use Rattle.power.proofs.single.sort_from5_32.Tie as tie
@@ -45,18 +43,12 @@ returns-4 : tie.Need-returns-4
 unfolding sorted5
 returns-4 c = simp (ne-eqb _ _ (c .before .before .before .before .before .if1 .left), ne-eqb _ _ (c .before .before .before .before .if2 .left), ne-eqb _ _ (c .before .before .before .if3 .left), eq-eqb _ _ (c .before .before .if4 .taken), lt-leb _ _ (c .before .if5 .taken), c .root32 .ensures)
 
-cast-sort-rest : tie.Need-cast-sort-rest
-cast-sort-rest c = rw size32 (omega arith)
-
-cast-sort-rest-2 : tie.Need-cast-sort-rest-2
-cast-sort-rest-2 c = rw size32 (omega arith)
-
-sort-rest-requires : tie.Need-sort-rest-requires
-sort-rest-requires c κs = (held32, rw size32 (omega arith), rw size32 (c .before .before .before .before .pre))
+sort-from6-32-requires : tie.Need-sort-from6-32-requires
+sort-from6-32-requires c κs = search needs
 
 returns-5 : tie.Need-returns-5
 returns-5 c =
-    (rw (size32 (c .before .before .before .before .before .args .x), size32 (c .before .before .before .before .before .args .y)) at (c .sort-rest .ensures)) ∙
+    c .sort-from6-32 .ensures ∙
     past5 toldSettled toldOpen binary32 (c .before .before .before .before .before .args .x) (c .before .before .before .before .before .args .y) (ne-eqb _ _ (c .before .before .before .before .if1 .left)) (ne-eqb _ _ (c .before .before .before .if2 .left)) (ne-eqb _ _ (c .before .before .if3 .left))
     (⊎-elim (λ w. rw (eq-eqb _ _ (w .0 .taken), le-leb _ _ (w .1 .left)) refl) (λ w. rw (ne-eqb _ _ (w .left)) refl) (c .before .if4 .came))
 
@@ -74,7 +66,5 @@ sort-from5-32-spec =
     root32-requires
     cast-t11
     returns-4
-    cast-sort-rest
-    cast-sort-rest-2
-    sort-rest-requires
+    sort-from6-32-requires
     returns-5)

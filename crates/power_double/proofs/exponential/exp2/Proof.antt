@@ -1,8 +1,11 @@
-use Prim.Native.Nat.{_-_, _%_, _^_}
+use Prim.Native.Nat.{_+_, _-_, _%_, _^_, _<_}
+use mathlib.Core.Path.{_≡_}
+use mathlib.Core.Bool.{cond}
 use mathlib.Core.Logic.{⊎-elim}
 use native.Mathlib.Omega.{arith}
+use lib.Dec.{leb}
 use lib.Ieee.{binary64, toBits, add}
-use borrow.Author.Tests.{lt-ltb, le-ltb}
+use borrow.Author.Tests.{lt-ltb, le-ltb, le-leb, lt-leb}
 use Rattle.power.specs.Chain.{exp2Of}
 use Rattle.power.specs.Power.{double}
 use Rattle.power.proofs.Words.{size32}
@@ -11,6 +14,13 @@ use Rattle.power_double.specs.Parts.{two}
 use borrow.Author.Needs.{needs}
 use Rattle.power_double.proofs.exponential.exp2.Statement.{statement}
 use Rattle.power_double.proofs.exponential.exp2.Tie as tie
+
+-- n, with its sign, above the whole turn
+e-is : (c : tie.Joined2) → c .if2 .e ≡ cond (leb 0x80000000 (c .before .before .before .before .before .get-high-word .result)) (4096 - c .before .before .before .nearest-to .result .size) (4096 + c .before .before .before .nearest-to .result .size)
+e-is c = ⊎-elim (λ w. simp (le-leb _ _ (w .0 .taken)) (w .2)) (λ w. simp (lt-leb _ _ (w .0 .left)) (w .2)) (c .if2 .came)
+
+e-small : (c : tie.Joined2) → c .if2 .e < 8192
+e-small c = let h = c .before .before .before .nearest-to .ensures .1 in ⊎-elim (λ w. omega (arith, w .2)) (λ w. omega (arith, w .2)) (c .if2 .came)
 
 get-high-word-requires : tie.Need-get-high-word-requires
 get-high-word-requires c κs = search needs
@@ -21,6 +31,12 @@ nearest-to-requires c κs =
     let i : Inside double (toBits binary64 (add binary64 (c .before .before .before .args .p .lo) (c .before .before .before .args .p .hi))) = within double (two (c .before .before .before .args .p)) (c .before .before .before .pre) in
     ⊎-elim (λ h. omega (arith, size32 j, c .before .get-high-word .ensures)) (λ h. omega (arith, size32 j, c .before .get-high-word .ensures, c .before .get-high-word .ok)) i
 
+sub-e : tie.Need-sub-e
+sub-e c = search needs
+
+add-e : tie.Need-add-e
+add-e c = search needs
+
 parts-requires : tie.Need-parts-requires
 parts-requires c κs = search needs
 
@@ -28,7 +44,7 @@ exponential-requires : tie.Need-exponential-requires
 exponential-requires c κs = search needs
 
 raised-requires : tie.Need-raised-requires
-raised-requires c κs = search needs
+raised-requires c κs = e-small (c .before .before)
 
 parts-requires-2 : tie.Need-parts-requires-2
 parts-requires-2 c κs = search needs
@@ -42,8 +58,8 @@ raised-requires-2 c κs = search needs
 returns : tie.Need-returns
 unfolding exp2Of
 returns c =
-    let j = c .before .before .before .before .before .before .before .get-high-word .result in
-    simp (← c .before .before .before .before .before .before .before .get-high-word .ensures, lt-ltb 0x3fe00000 (j % 2 ^ 31) (omega (arith, size32 j, c .before .before .before .before .before .before .if1 .taken)), c .raised .ensures, c .before .exponential .ensures, c .before .before .parts .ensures, ← c .before .before .before .before .before .nearest-to .ensures .0)
+    let j = c .before .before .before .before .before .before .before .before .get-high-word .result in
+    simp (← c .before .before .before .before .before .before .before .before .get-high-word .ensures, lt-ltb 0x3fe00000 (j % 2 ^ 31) (omega (arith, size32 j, c .before .before .before .before .before .before .before .if1 .taken)), c .raised .ensures, c .before .exponential .ensures, c .before .before .parts .ensures, ← c .before .before .before .before .before .before .nearest-to .ensures .0, e-is (c .before .before .before))
 
 returns-2 : tie.Need-returns-2
 unfolding exp2Of
@@ -57,6 +73,8 @@ exp2-spec =
     (tie.spec
     get-high-word-requires
     nearest-to-requires
+    sub-e
+    add-e
     parts-requires
     exponential-requires
     raised-requires

@@ -2,11 +2,11 @@ use Prim.Native.Nat.{ℕ, zero, suc, _+_, _-_, _*_, _/_, _%_, _^_, _<_, _≤_}
 use mathlib.Core.Path.{_≡_, ap, _∙_}
 use native.Mathlib.Nat.{add-zero}
 use native.Mathlib.Omega.{arith}
-use lib.Bits.{bitAnd, bitOr}
+use lib.Bits.{bitAnd}
 use lib.Pow.{shr-le}
 use lib.Ieee.{binary64, ofBits, toBits, fits}
 use Rattle.power.specs.Chain.{nearestOf}
-use Rattle.power.proofs.Words.{size32, joined, unmask}
+use Rattle.power.proofs.Words.{size32, joined, unmask, kept-lt}
 use borrow.Author.Needs.{needs}
 use Rattle.power_double.proofs.exponential.nearest_to.Statement.{statement}
 use Rattle.power_double.proofs.exponential.nearest_to.Tie as tie
@@ -75,7 +75,7 @@ returns c =
     let k = bitAnd (sum j) 2147483647 / 1048576 - 1023 in
     let e : c .with-set-high-word .result ≡ ofBits binary64 (sum j / 2 ^ (20 - k) * 2 ^ (20 - k) * 2 ^ 32) =
     c .with-set-high-word .ensures ∙ ap (ofBits binary64) (low-zero _ ∙ ap (λ (n : ℕ). n * 2 ^ 32) (unmask 20 k 32 (sum j) (omega arith) (omega arith) (a .fits))) in
-    (simp (e, size32, joined 1 20), omega (arith, joined 1 20 (sum j), shr-le (bitOr (bitAnd (sum j) 1048575) 1048576) (20 - k)))
+    (simp (e, size32, joined 1 20), rw (joined 1 20 (sum j)) (kept-lt 20 11 k (2 ^ 20 + sum j % 2 ^ 20) (omega arith) (omega arith) (omega arith)))
 
 pub nearest-to-spec : {M : Type 1} → statement M
 nearest-to-spec =

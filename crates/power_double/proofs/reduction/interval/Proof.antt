@@ -8,14 +8,17 @@ use borrow.Author.Needs.{needs}
 use Rattle.power_double.proofs.reduction.interval.Statement.{statement}
 use Rattle.power_double.proofs.reduction.interval.Tie as tie
 
+cast-n : tie.Need-cast-n
+cast-n c = search needs
+
 add-n : tie.Need-add-n
 add-n c = search needs
 
-sub-t11 : tie.Need-sub-t11
-sub-t11 c = omega (arith, joined 1023 52 (c .before .before .args .ix))
+sub-t12 : tie.Need-sub-t12
+sub-t12 c = omega (arith, joined 1023 52 (c .before .before .args .ix))
 
-add-t12 : tie.Need-add-t12
-add-t12 c = search needs
+add-t13 : tie.Need-add-t13
+add-t13 c = search needs
 
 returns : tie.Need-returns
 unfolding intervalOf
@@ -36,4 +39,4 @@ returns-3 c =
     (simp (joined 1023 52 x, le-ltb (x % 2 ^ 52) 0x3988f00000000 (omega (arith, and-mask x 52)), le-ltb (x % 2 ^ 52) 0xbb67a00000000 (omega (arith, and-mask x 52))), omega (arith, joined 1023 52 x))
 
 pub interval-spec : {M : Type 1} → statement M
-interval-spec = tie.close (tie.spec add-n sub-t11 add-t12 returns returns-2 returns-3)
+interval-spec = tie.close (tie.spec cast-n add-n sub-t12 add-t13 returns returns-2 returns-3)

@@ -2,11 +2,11 @@ use Prim.Native.Nat.{ℕ, zero, suc, _+_, _-_, _*_, _/_, _%_, _^_, _<_, _≤_}
 use mathlib.Core.Path.{_≡_, ap, _∙_}
 use native.Mathlib.Nat.{mul-one}
 use native.Mathlib.Omega.{arith}
-use lib.Bits.{bitAnd, bitOr}
+use lib.Bits.{bitAnd}
 use lib.Pow.{shr-le}
 use lib.Ieee.{binary32, ofBits}
 use Rattle.power.specs.Chain.{nearestOf}
-use Rattle.power.proofs.Words.{size32, joined, unmask}
+use Rattle.power.proofs.Words.{size32, joined, unmask, kept-lt}
 use borrow.Author.Needs.{needs}
 use Rattle.power_single.proofs.exponential.nearest_to.Statement.{statement}
 use Rattle.power_single.proofs.exponential.nearest_to.Tie as tie
@@ -70,7 +70,7 @@ returns c =
     let k = bitAnd (sum j) 2147483647 / 8388608 - 127 in
     let e : c .of-word32 .result ≡ ofBits binary32 (sum j / 2 ^ (23 - k) * 2 ^ (23 - k)) =
     c .of-word32 .ensures ∙ ap (ofBits binary32) (unmask 23 k 32 (sum j) (omega arith) (omega arith) (a .fits)) in
-    (simp (e, size32, joined 1 23, mul-one), omega (arith, joined 1 23 (sum j), shr-le (bitOr (bitAnd (sum j) 8388607) 8388608) (23 - k)))
+    (simp (e, size32, joined 1 23, mul-one), rw (joined 1 23 (sum j)) (kept-lt 23 8 k (2 ^ 23 + sum j % 2 ^ 23) (omega arith) (omega arith) (omega arith)))
 
 pub nearest-to-spec : {M : Type 1} → statement M
 nearest-to-spec =

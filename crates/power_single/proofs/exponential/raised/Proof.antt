@@ -1,76 +1,61 @@
-use Prim.Native.Nat.{_+_, _-_, _*_, _/_, _%_, _^_}
+use Prim.Native.Nat.{ℕ, _+_, _-_, _*_, _/_, _%_, _^_}
 use mathlib.Core.Path.{_≡_}
-use mathlib.Core.Bool.{cond}
-use mathlib.Core.Logic.{⊎-elim}
 use native.Mathlib.Nat.{mul-one, mod-one, add-zero}
 use native.Mathlib.Omega.{arith}
-use lib.Ieee.{binary32, toBits}
 use borrow.Author.Tests.{lt-ltb, le-ltb, le-leb, lt-leb}
 use Rattle.power.specs.Chain.{raisedOf}
-use Rattle.power.proofs.Exponent.{signed-back}
+use Rattle.power.proofs.Exponent.{unbiased-back}
 use borrow.Author.Needs.{needs}
 use Rattle.power_single.proofs.exponential.raised.Statement.{statement}
 use Rattle.power_single.proofs.exponential.raised.Tie as tie
 
 -- the sum that wraps
-j-is : (c : tie.Joined1) → c .if1 .j ≡ cond (c .before .args .down) (toBits binary32 (c .before .args .z) / 1 + (2 ^ 32 - c .before .args .n * 2 ^ 23 % 2 ^ 32)) (toBits binary32 (c .before .args .z) / 1 + c .before .args .n * 2 ^ 23) % 2 ^ 32
-j-is c =
-    ⊎-elim
-    (λ w. simp (w .0 .taken, ← w .1 .ensures) (omega (arith, w .1 .ok, w .2 .ensures, w .2 .ok, w .3)))
-    (λ w. simp (w .0 .left, ← w .1 .ensures) (omega (arith, w .2 .ensures, w .3)))
-    (c .if1 .came)
+j-is : (x e j : ℕ) → j ≡ (x + e * 2 ^ 23 % 2 ^ 32) % 2 ^ 32 → j ≡ (x / 1 + e * 2 ^ 23) % 2 ^ 32
+j-is x e j h = omega arith
 
 to-word32-requires : tie.Need-to-word32-requires
 to-word32-requires c κs = search needs
 
-wrapping-sub-u32-requires : tie.Need-wrapping-sub-u32-requires
-wrapping-sub-u32-requires c κs = search needs
-
-to-word32-requires-2 : tie.Need-to-word32-requires-2
-to-word32-requires-2 c κs = search needs
-
 wrapping-add-u32-requires : tie.Need-wrapping-add-u32-requires
 wrapping-add-u32-requires c κs = search needs
 
-signed-requires : tie.Need-signed-requires
-signed-requires c κs = search needs
+unbiased-requires : tie.Need-unbiased-requires
+unbiased-requires c κs = search needs
 
 scale32-requires : tie.Need-scale32-requires
 scale32-requires c κs = search needs
 
 returns : tie.Need-returns
 unfolding raisedOf
-returns c = simp (← j-is (c .before .before .before), le-leb _ _ (c .before .before .if2 .taken), c .scale32 .ensures, c .before .signed .ensures, signed-back (c .before .before .before .before .args .down) (c .before .before .before .before .args .n) (c .before .before .before .before .pre))
+returns c = simp (← j-is (c .before .before .before .before .to-word32 .result) (c .before .before .before .before .before .args .e) _ (c .before .before .before .wrapping-add-u32 .ensures), ← c .before .before .before .before .to-word32 .ensures, le-leb _ _ (c .before .before .if1 .taken), c .scale32 .ensures, c .before .unbiased .ensures, unbiased-back 512 (c .before .before .before .before .before .args .e) (omega arith) (c .before .before .before .before .before .pre))
 
-signed-requires-2 : tie.Need-signed-requires-2
-signed-requires-2 c κs = search needs
+unbiased-requires-2 : tie.Need-unbiased-requires-2
+unbiased-requires-2 c κs = search needs
 
 scale32-requires-2 : tie.Need-scale32-requires-2
 scale32-requires-2 c κs = search needs
 
 returns-2 : tie.Need-returns-2
 unfolding raisedOf
-returns-2 c = simp (← j-is (c .before .before .before .before), lt-leb _ _ (c .before .before .before .if2 .left), lt-ltb _ _ (c .before .before .if3 .taken), c .scale322 .ensures, c .before .signed2 .ensures, signed-back (c .before .before .before .before .before .args .down) (c .before .before .before .before .before .args .n) (c .before .before .before .before .before .pre))
+returns-2 c = simp (← j-is (c .before .before .before .before .before .to-word32 .result) (c .before .before .before .before .before .before .args .e) _ (c .before .before .before .before .wrapping-add-u32 .ensures), ← c .before .before .before .before .before .to-word32 .ensures, lt-leb _ _ (c .before .before .before .if1 .left), lt-ltb _ _ (c .before .before .if2 .taken), c .scale322 .ensures, c .before .unbiased2 .ensures, unbiased-back 512 (c .before .before .before .before .before .before .args .e) (omega arith) (c .before .before .before .before .before .before .pre))
 
 of-word32-requires : tie.Need-of-word32-requires
 of-word32-requires c κs = search needs
 
 returns-3 : tie.Need-returns-3
 unfolding raisedOf
-returns-3 c = simp (← j-is (c .before .before .before), lt-leb _ _ (c .before .before .if2 .left), le-ltb _ _ (c .before .if3 .left), c .of-word32 .ensures, mul-one, mod-one, add-zero)
+returns-3 c = simp (← j-is (c .before .before .before .before .to-word32 .result) (c .before .before .before .before .before .args .e) _ (c .before .before .before .wrapping-add-u32 .ensures), ← c .before .before .before .before .to-word32 .ensures, lt-leb _ _ (c .before .before .if1 .left), le-ltb _ _ (c .before .if2 .left), c .of-word32 .ensures, mul-one, mod-one, add-zero)
 
 pub raised-spec : {M : Type 1} → statement M
 raised-spec =
     tie.close
     (tie.spec
     to-word32-requires
-    wrapping-sub-u32-requires
-    to-word32-requires-2
     wrapping-add-u32-requires
-    signed-requires
+    unbiased-requires
     scale32-requires
     returns
-    signed-requires-2
+    unbiased-requires-2
     scale32-requires-2
     returns-2
     of-word32-requires
