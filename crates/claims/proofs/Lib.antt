@@ -2,3 +2,5 @@ pub mod Values
 pub mod Rounds
 pub mod Operations
 pub mod Agreement
+pub mod Products
+pub mod Streams

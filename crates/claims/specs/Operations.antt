@@ -2,7 +2,7 @@
 -- Nothing here speaks of how a result is found: a finite result is the word that no finite word is nearer than, ties to even (words/specs/Nearest.antt).
 use Prim.Native.Nat.{ℕ, _*_, _^_, _<_}
 use mathlib.Core.Path.{_≡_}
-use mathlib.Core.Bool.{true}
+use mathlib.Core.Bool.{true, false}
 use lib.IntN.{ℤ}
 use lib.Ieee.{up, down}
 use Rattle.words.specs.Format.{Format, low, infinity, quiet, magnitude, negative, isNaN, signed, units}
@@ -22,3 +22,15 @@ pub record ScaleB (f : Format) (x : ℕ) (n : ℤ) (r : ℕ) : Type 0 where
   pub of-infinity : magnitude f x ≡ infinity f → r ≡ x
   pub of-finite : magnitude f x < infinity f → (m : ℕ) × (r ≡ signed f (negative f x) m) × Nearest f (units f (magnitude f x) * up n) (down n) m
   pub of-zero : magnitude f x ≡ 0 → r ≡ x
+
+-- r is 1 / x for a finite x but zero; 1 is 2 ^ low units, so 1 / x is 2 ^ low * 2 ^ low / units
+pub record Reciprocal (f : Format) (x r : ℕ) : Type 0 where
+  pub size : ℕ
+  pub word : r ≡ signed f (negative f x) size
+  pub nearest : Nearest f (2 ^ low f * 2 ^ low f) (units f (magnitude f x)) size
+
+-- r is x * x for a finite x: units * units / 2 ^ low
+pub record Square (f : Format) (x r : ℕ) : Type 0 where
+  pub size : ℕ
+  pub word : r ≡ signed f false size
+  pub nearest : Nearest f (units f (magnitude f x) * units f (magnitude f x)) (2 ^ low f) size

@@ -1,14 +1,14 @@
 -- A plain pair is open and its result positive: each test of the rules fails. Over the kit's formats. Assumes nothing.
-use Prim.Native.Nat.{ℕ, _+_, _%_, _≤_, _<_}
-use mathlib.Core.Path.{_≡_, refl, sym, ap, subst, _∙_}
-use mathlib.Core.Bool.{Bool, true, false, not, _&&_, _||_, cond}
+use Prim.Native.Nat.{ℕ, _+_, _<_}
+use mathlib.Core.Path.{_≡_, refl, sym, subst}
+use mathlib.Core.Bool.{Bool, true, false, not, _&&_}
 use native.Mathlib.Nat.{le-of-lt, lt-trans, mod-eq-of-lt}
 use native.Mathlib.Omega.{arith}
-use lib.Dec.{ltb, leb, eqb, T}
+use lib.Dec.{ltb, eqb, T}
 use lib.Ieee.{Format}
 use borrow.Author.Tests.{le-ltb, lt-leb, ltb-true, ne-eqb}
 use Rattle.words.specs.Format as Ours
-use Rattle.words.specs.Format.{infinity, top, one, magnitude, negative, ours}
+use Rattle.words.specs.Format.{infinity, top, one, magnitude, ours}
 use Rattle.words.proofs.Words.{infinity-below}
 use Rattle.power.specs.Sorting.{twoWord, halfWord, sorted, sorted5, sorted6, sorted7}
 use Rattle.power.specs.Plain.{plainBase, plainExponent, plain}

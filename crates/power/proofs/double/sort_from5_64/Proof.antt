@@ -1,7 +1,6 @@
 use mathlib.Core.Path.{refl, _∙_}
 use borrow.Author.Tests.{le-leb, lt-leb, eq-eqb, ne-eqb}
 use mathlib.Core.Logic.{⊎-elim}
-use Prim.Native.Nat.{_-_}
 use lib.Ieee.{binary64}
 use Rattle.power.specs.Sorting.{sorted5, toldSettled, toldOpen}
 use Rattle.power.proofs.Cases.{past5}

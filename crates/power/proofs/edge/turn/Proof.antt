@@ -4,7 +4,7 @@ use native.Mathlib.Omega.{arith}
 use Rattle.words.specs.Format.{format, top}
 use Rattle.words.proofs.Words.{infinity-below}
 use Rattle.power.specs.Sorting.{turned}
-use Prim.Native.Nat.{ℕ, _-_, _<_}
+use Prim.Native.Nat.{ℕ, _<_}
 use borrow.Author.Needs.{needs}
 use Rattle.power.proofs.edge.turn.Statement.{statement}
 use Rattle.power.proofs.edge.turn.Tie as tie

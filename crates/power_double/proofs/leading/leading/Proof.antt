@@ -1,4 +1,4 @@
-use Prim.Native.Nat.{_-_, _*_, _/_, _^_}
+use Prim.Native.Nat.{_*_, _/_, _^_}
 use mathlib.Core.Path.{refl, sym, ap, subst, _∙_}
 use native.Mathlib.Nat.{add-zero}
 use lib.Dec.{T}

@@ -1,4 +1,3 @@
-use Prim.Native.Nat.{_-_}
 use Rattle.power.specs.Chain.{nearOf}
 use borrow.Author.Needs.{needs}
 use Rattle.power_double.proofs.logarithm.near.Statement.{statement}

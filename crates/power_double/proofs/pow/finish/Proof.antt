@@ -1,4 +1,3 @@
-use Prim.Native.Nat.{_-_}
 use mathlib.Core.Path.{sym, ap, _∙_}
 use lib.Ieee.{binary64, mul}
 use Rattle.power.specs.Power.{double}

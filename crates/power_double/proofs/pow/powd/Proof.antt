@@ -1,4 +1,3 @@
-use Prim.Native.Nat.{_-_}
 use mathlib.Core.Path.{sym, ap, _∙_}
 use Rattle.power.specs.Power.{double}
 use Rattle.power.proofs.Cases.{chosen, pow-chosen}

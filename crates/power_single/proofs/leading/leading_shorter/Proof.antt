@@ -1,4 +1,3 @@
-use Prim.Native.Nat.{_-_}
 use mathlib.Core.Path.{refl, sym, ap, subst}
 use lib.Dec.{T}
 use lib.Ieee.{binary32, ofBits, toBits}
