@@ -6,7 +6,7 @@ use native.Mathlib.Nat.{le-trans, mul-mod-left}
 use native.Mathlib.Omega.{arith}
 use lib.Dec.{T}
 use lib.Pow.{mod-pow-add, shl-shr}
-use lib.Ieee.{Float, Format, nan, inf, fin, add, sub, mul, neg, ne, toBits, ofBits, fits, isNan, nanBits, hid, ones, top}
+use lib.Ieee.{Float, Format, nan, inf, fin, add, sub, mul, div, neg, ne, toBits, ofBits, fits, isNan, nanBits, hid, ones, top}
 use lib.Ieee.Bits.{is-false, ofBits-toBits, nanBits-is, nanBits-above}
 use lib.Ieee.Compare.{differs-from-itself}
 use borrow.Author.Tests.{ltb-false}
@@ -45,6 +45,10 @@ unfolding mul
 mul-nan-r f nan = refl
 mul-nan-r f (inf s) = refl
 mul-nan-r f (fin s m e) = refl
+
+pub div-nan-l : (f : Format) (y : Float) → div f nan y ≡ nan
+unfolding div
+div-nan-l f y = refl
 
 -- ---- the leading part of a NaN, at each width's two lengths
 

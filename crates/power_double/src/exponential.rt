@@ -9,6 +9,7 @@ use super::halves::get_high_word;
 use super::halves::with_set_high_word;
 use super::leading::Pair;
 use super::leading::leading;
+use super::leading::nans;
 use super::table::LG2;
 use super::table::LG2_H;
 use super::table::LG2_L;
@@ -29,7 +30,7 @@ pub fn product(y: f64, t: Pair) -> Pair
     ensures { λ r. ⌜ two r ≡ productOf double y (two t) ⌝ }
 {
     if y != y {
-        return Pair { hi: y, lo: y };
+        return nans(y);
     }
     let y1 = leading(y);
     Pair {
@@ -97,7 +98,7 @@ fn parts(p: Pair) -> Pair
 {
     let s = p.lo + p.hi;
     if s != s {
-        return Pair { hi: s, lo: s };
+        return nans(s);
     }
     let t = leading(s);
     let u = t * constant(LG2_H);

@@ -8,6 +8,7 @@ ghost use Rattle.power_single.specs.Parts.{two, nearest};
 use super::leading::Pair;
 use super::leading::leading;
 use super::leading::leading_shorter;
+use super::leading::nans;
 use super::table::LG2;
 use super::table::LG2_H;
 use super::table::LG2_L;
@@ -29,7 +30,7 @@ pub fn product(y: f32, t: Pair) -> Pair
     ensures { λ r. ⌜ two r ≡ productOf single y (two t) ⌝ }
 {
     if y != y {
-        return Pair { hi: y, lo: y };
+        return nans(y);
     }
     let y1 = leading(y);
     Pair {
@@ -97,7 +98,7 @@ fn parts(p: Pair) -> Pair
 {
     let s = p.lo + p.hi;
     if s != s {
-        return Pair { hi: s, lo: s };
+        return nans(s);
     }
     let t = leading_shorter(s);
     let u = t * constant(LG2_H);

@@ -11,6 +11,8 @@ use Rattle.words.proofs.Floats.{equal-number}
 use Rattle.power.proofs.Words.{cut}
 use Rattle.words.proofs.Floats.{equal-number}
 use Rattle.power.proofs.Words.{cut}
+use Rattle.words.proofs.Floats.{equal-number}
+use Rattle.power.proofs.Words.{cut}
 use Rattle.power_double.proofs.halves.with_set_low_word.Statement.{statement}
 use Rattle.power_double.proofs.halves.with_set_low_word.Tie as tie
 

@@ -9,6 +9,8 @@ use Rattle.power.specs.Chain.{chop}
 use Rattle.power.proofs.Nan.{leading-number}
 use Rattle.power.specs.Chain.{chop}
 use Rattle.power.proofs.Nan.{leading-number}
+use Rattle.power.specs.Chain.{chop}
+use Rattle.power.proofs.Nan.{leading-number}
 use Rattle.power_double.proofs.leading.leading.Statement.{statement}
 use Rattle.power_double.proofs.leading.leading.Tie as tie
 

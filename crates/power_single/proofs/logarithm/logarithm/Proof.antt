@@ -1,4 +1,5 @@
-use mathlib.Core.Path.{_≡_}
+use Prim.Native.Nat.{_-_}
+use mathlib.Core.Path.{_≡_, _∙_}
 use lib.Ieee.{Float, nan}
 use Rattle.power.specs.Chain.{splitOf, logarithmOf}
 use Rattle.power.specs.Power.{single}
@@ -10,9 +11,12 @@ use Rattle.power_single.proofs.logarithm.logarithm.Tie as tie
 split : (v : Float) → splitOf single nan v ≡ record { hi = nan; lo = nan }
 split v = split-nan single v short32
 
+nans-requires : tie.Need-nans-requires
+nans-requires c κs = search needs
+
 returns : tie.Need-returns
 unfolding logarithmOf
-returns c = simp (differs _ (c .if1 .taken), short32, add-nan-l, sub-nan-l, sub-nan-r, mul-nan-l, mul-nan-r, split)
+returns c = c .nans .ensures ∙ simp (differs _ (c .before .if1 .taken), short32, add-nan-l, sub-nan-l, sub-nan-r, mul-nan-l, mul-nan-r, split)
 
 leading-requires : tie.Need-leading-requires
 leading-requires c κs = search needs
@@ -25,4 +29,5 @@ unfolding logarithmOf
 returns-2 c = cc
 
 pub logarithm-spec : {M : Type 1} → statement M
-logarithm-spec = tie.close (tie.spec returns leading-requires split-requires returns-2)
+logarithm-spec =
+    tie.close (tie.spec nans-requires returns leading-requires split-requires returns-2)

@@ -1,12 +1,12 @@
 use Rattle.power.specs.Chain.{quotientOf}
-use Rattle.power.proofs.Nan.{differs, sub-nan-l, sub-nan-r, mul-nan-l, mul-nan-r, short32}
+use Rattle.power.proofs.Nan.{differs, div-nan-l, sub-nan-l, sub-nan-r, mul-nan-l, mul-nan-r, short32}
 use borrow.Author.Needs.{needs}
 use Rattle.power_single.proofs.logarithm.quotient.Statement.{statement}
 use Rattle.power_single.proofs.logarithm.quotient.Tie as tie
 
 returns : tie.Need-returns
 unfolding quotientOf
-returns c = simp (differs _ (c .if1 .taken), short32, sub-nan-l, sub-nan-r, mul-nan-l, mul-nan-r)
+returns c = simp (differs _ (c .if1 .taken), short32, div-nan-l, sub-nan-l, sub-nan-r, mul-nan-l, mul-nan-r)
 
 leading-requires : tie.Need-leading-requires
 leading-requires c κs = search needs
