@@ -1,4 +1,3 @@
-use Prim.Native.Nat.{_-_}
 use mathlib.Core.Path.{_∙_}
 use Rattle.power.specs.Chain.{productOf}
 use Rattle.power.proofs.Nan.{differs, add-nan-l, sub-nan-l, mul-nan-l, short64}

@@ -1,4 +1,3 @@
-use Prim.Native.Nat.{_-_}
 use Rattle.power.proofs.Nan.{differs, div-nan-l}
 use Rattle.power_single.proofs.leading.nans.Statement.{statement}
 use Rattle.power_single.proofs.leading.nans.Tie as tie
