@@ -5,3 +5,6 @@ pub mod Nan
 pub mod Fits
 pub mod Exponent
 pub mod Unsettled
+pub mod Edges
+pub mod AnnexF
+pub mod Silent
