@@ -4,3 +4,4 @@ pub mod Operations
 pub mod Agreement
 pub mod Products
 pub mod Streams
+pub mod AnnexF

@@ -1,3 +1,5 @@
 pub mod Values
+pub mod OpenPowers
 pub mod Rounds
 pub mod Operations
+pub mod AnnexF
