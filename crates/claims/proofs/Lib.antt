@@ -1,4 +1,5 @@
 pub mod Values
+pub mod Rounding
 pub mod Rounds
 pub mod Operations
 pub mod Agreement

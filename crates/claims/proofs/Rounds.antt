@@ -9,8 +9,8 @@ use Rattle.root.specs.Root.{floorRoot, digitsAt, leftAt, significand, lifted, h
 use Rattle.root.specs.Partial.{partialRoot}
 use Rattle.root.specs.declared.partial.PartialRoot.{PartialRoot}
 use Rattle.root.proofs.Words.{Fine, partial-done}
-use Rattle.root.proofs.Sentences.{operand-is, operand-range, rounds-low, rounds-high, rounds-largest, rounds-left, rounds-size, root-near, root-digits, root-units, root-normal, root-square-low, root-square-high}
-use Rattle.claims.specs.Rounds.{ScaledOperand, AfterRounds, HalfUnit}
+use Rattle.root.proofs.Sentences.{operand-is, operand-range, rounds-low, rounds-high, rounds-largest, rounds-left, rounds-size, root-exact, root-exact-only, root-near, root-digits, root-units, root-normal, root-square-low, root-square-high}
+use Rattle.claims.specs.Rounds.{ScaledOperand, AfterRounds, HalfUnit, Exact}
 
 -- E + emax - 1 of an operand
 abbrev pub power-of-four : Format → ℕ → ℕ
@@ -57,6 +57,13 @@ module _ (f : Format) (g : Fine f) (small : f .digits ≤ 60) (x : ℕ) (some : 
         before-units = root-square-high f x g small some below;
       }
 
+  exact-root : Exact f x
+  exact-root = record {
+    even = λ z. root-exact f x g small some below z .0;
+    exact = λ z. root-exact f x g small some below z .1;
+    only = λ s e. root-exact-only f x g small some below s e;
+  }
+
 -- ---- at each width
 
 single : Fine binary32
@@ -80,6 +87,13 @@ demand-3-half-unit-32 x some below = half-unit binary32 single (omega arith) x s
 
 pub demand-3-half-unit-64 : (x : ℕ) → 0 < x → x < infinity binary64 → HalfUnit binary64 x (rootWord binary64 x) (significand 53 (wholeOf binary64 x)) (power-of-four binary64 x)
 demand-3-half-unit-64 x some below = half-unit binary64 double (omega arith) x some below
+
+-- "The root is exact when the last left-over is 0; Q is then even."
+pub demand-3-exact-32 : (x : ℕ) → 0 < x → x < infinity binary32 → Exact binary32 x
+demand-3-exact-32 x some below = exact-root binary32 single (omega arith) x some below
+
+pub demand-3-exact-64 : (x : ℕ) → 0 < x → x < infinity binary64 → Exact binary64 x
+demand-3-exact-64 x some below = exact-root binary64 double (omega arith) x some below
 
 -- the operand that the digits are held against is x itself, scaled by a power of 4
 pub demand-3-operand-32 : (x : ℕ) → 0 < x → x < infinity binary32 → ScaledOperand binary32 x (power-of-four binary32 x)

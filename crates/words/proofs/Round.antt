@@ -141,7 +141,7 @@ toBits-val f s m e a h =
     ap (λ (x : ℕ). cond s (top (ours f)) 0 + (size x - prec f) * hid (ours f) + x / 2 ^ (size x - prec f)) (ap (λ (x : ℕ). x / down e) h ∙ mul-div-cancel a (down-pos e))
     ∙ add-assoc (cond s (top (ours f)) 0) ((size a - prec f) * hid (ours f)) (a / 2 ^ (size a - prec f))
 
-pub toBits-odd : (f : Ieee.Format) (d : ℕ) (s : Bool) (q k : ℕ) → Ieee.toBits f (odd d s q k (Ieee.low f)) ≡ signed (ours f) s (word (prec f) (q * 2 ^ k))
+toBits-odd : (f : Ieee.Format) (d : ℕ) (s : Bool) (q k : ℕ) → Ieee.toBits f (odd d s q k (Ieee.low f)) ≡ signed (ours f) s (word (prec f) (q * 2 ^ k))
 unfolding odd
 toBits-odd f d s zero k = toBits-val f s 0 (pos 0) (0 * 2 ^ k) (odd-val d s zero k (Ieee.low f))
 toBits-odd f d s (suc q) k =
