@@ -4,4 +4,5 @@ pub mod Far
 pub mod Ways
 pub mod Fields
 pub mod Scaled
+pub mod Tiny
 pub mod Machine

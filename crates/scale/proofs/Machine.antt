@@ -1,18 +1,21 @@
 -- The steps as the machine takes them: a signed number is held as bits and read back, and each test and sum is one on what was read back. Assumes nothing.
 use mathlib.Core.Path.{_≡_, refl, sym, ap, _∙_, subst}
-use Prim.Native.Nat.{suc, _^_, _≤_}
-use mathlib.Core.Bool.{true, false}
+use Prim.Native.Nat.{ℕ, suc, _+_, _-_, _*_, _^_, _≤_, _<_}
+use native.Mathlib.Omega.{arith}
+use mathlib.Core.Bool.{true, false, not}
 use lib.Dec.{T}
 use lib.IntN.{ℤ, pos, negsuc, _+ℤ_, _-ℤ_}
-use lib.Signed.{ltZ}
-use lib.Ieee.{Float, Format, emax, ones, mul, fits}
+use lib.Signed.{ltZ, _≤ℤ_}
+use lib.Ieee.{Float, Format, prec, emax, low, hid, ones, add, mul, lt, ofInt, isNan, toBits, fits}
 use mir.Syntax.{Width}
 use mir.Val.{SFits, hbits, toZ, ofZ}
 use mir.ValLaws.{toZ-ofZ}
-use Rattle.scale.specs.Scale.{power}
+use Rattle.words.specs.Format.{ours}
+use Rattle.scale.specs.Scale.{scaled, power}
 use Rattle.scale.specs.Steps.{Normal, pastUp, pastDown, fall, stepFloat, stepLeft, between, clamped}
 use Rattle.scale.proofs.Ways.{scale-steps, up-fits, down-fits, left-fits, inside-normal}
 use Rattle.scale.proofs.Fields.{Field, field-of}
+use Rattle.scale.proofs.Tiny.{tinyExponent, held-far, least-held, most-held, whole-number, by-whole, sum-number, by-sum}
 
 -- what is read back of a number
 abbrev pub held : Width → ℤ → ℤ
@@ -91,3 +94,51 @@ scale-held f w x y₁ y₂ p n n₁ n₂ r X N R a b l m =
     let d' : held w n₂ ≡ stepLeft f (stepLeft f n) = ap (held w) d ∙ toZ-ofZ w (stepLeft f (stepLeft f n)) (left-fits f w (stepLeft f n) N₁) in
     let y : y₂ ≡ stepFloat f (stepFloat f x n) (stepLeft f n) = b .0 ∙ (λ i. stepFloat f ((a .0 ∙ ap (stepFloat f x) e) i) (c' i)) in
     (λ i. mul f (y i) ((m ∙ ap power (toZ-ofZ w r R ∙ l ∙ ap (clamped f) d')) i)) ∙ scale-steps f x n X
+
+-- ---- a word m below the normal numbers': r is the clamped exponent
+-- t is the sum of the product and 2 ^ (prec - 1), and it is their units' word beside that one's; v is the product itself
+pub record SumWord (f : Format) (m : ℕ) (n : ℤ) (t : Float) : Type 0 where
+  pub number : T (not (isNan t))
+  pub enough : (low f + 1) * hid f ≤ toBits f t
+  pub word : toBits f t - (low f + 1) * hid f ≡ scaled (ours f) m n
+
+pub record WholeWord (f : Format) (m : ℕ) (n : ℤ) (v : Float) : Type 0 where
+  pub number : T (not (isNan v))
+  pub word : toBits f v ≡ scaled (ours f) m n
+
+module _ (f : Format) (w : Width) (m : ℕ) (M : m < hid f) (n r : ℤ) (N : SFits w n) (R : SFits w r) (e : r ≡ tinyExponent f (held w n)) where
+  exponent : held w r ≡ tinyExponent f n
+  exponent = toZ-ofZ w r R ∙ e ∙ ap (tinyExponent f) (toZ-ofZ w n N)
+
+  same : scaled (ours f) m (held w r) ≡ scaled (ours f) m n
+  same = ap (scaled (ours f) m) exponent ∙ held-far f m M n
+
+  pub tiny-sum : (y P : Float) → y ≡ mul f (ofInt f (pos m)) (power (held w r)) → P ≡ power (pos (prec f - 1)) → lt y P ≡ true → SumWord f m n (add f y P)
+  tiny-sum y P a b h =
+      let K = subst (λ (k : ℤ). negsuc (emax f - 2) ≤ℤ k) (sym exponent) (least-held f n) in
+      let L : lt (mul f (ofInt f (pos m)) (power (held w r))) (power (pos (prec f - 1))) ≡ true = (λ i. lt (sym a i) (sym b i)) ∙ h in
+      let s : add f y P ≡ add f (mul f (ofInt f (pos m)) (power (held w r))) (power (pos (prec f - 1))) = λ i. add f (a i) (b i) in
+      let t : toBits f (add f y P) ≡ (low f + 1) * hid f + scaled (ours f) m n = ap (toBits f) s ∙ by-sum f m M (held w r) K L ∙ ap (λ (z : ℕ). (low f + 1) * hid f + z) same in
+      record {
+        number = subst (λ (v : Float). T (not (isNan v))) (sym s) (sum-number f m M (held w r) K L);
+        enough = over (toBits f (add f y P)) ((low f + 1) * hid f) (scaled (ours f) m n) t;
+        word = past (toBits f (add f y P)) ((low f + 1) * hid f) (scaled (ours f) m n) t;
+      }
+    where
+      over : (x c z : ℕ) → x ≡ c + z → c ≤ x
+      over x c z e = omega arith
+
+      past : (x c z : ℕ) → x ≡ c + z → x - c ≡ z
+      past x c z e = omega arith
+
+  module _ (W : low f + suc (emax f) + low f + 1 < 2 ^ hbits w) where
+    pub tiny-fits : SFits w (held w r -ℤ pos (low f))
+    tiny-fits = subst (λ (k : ℤ). SFits w (k -ℤ pos (low f))) (sym exponent) (most-held f w n W)
+
+    pub tiny-whole : (v : Float) → v ≡ mul f (ofInt f (pos m)) (power (held w (held w r -ℤ pos (low f)))) → WholeWord f m n v
+    tiny-whole v a =
+        let b : v ≡ mul f (ofInt f (pos m)) (power (held w r -ℤ pos (low f))) = a ∙ ap (λ (k : ℤ). mul f (ofInt f (pos m)) (power k)) (toZ-ofZ w (held w r -ℤ pos (low f)) tiny-fits) in
+        record {
+          number = subst (λ (x : Float). T (not (isNan x))) (sym b) (whole-number f m M (held w r -ℤ pos (low f)));
+          word = ap (toBits f) b ∙ by-whole f m M (held w r) ∙ same;
+        }

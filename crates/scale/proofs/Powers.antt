@@ -56,11 +56,14 @@ units-number f s q k = go (ltb (q * 2 ^ k) (overflow f))
     go true = odd-number (suc (prec f)) s q k (low f)
     go false = refl
 
+pub round-number : (f : Format) (s : Bool) (a b : ℕ) → isNan (round f s a b) ≡ false
+round-number f s a b = ap isNan (round-is f s a b) ∙ units-number f s _ _
+
 pub mul-number : (f : Format) (x : Float) (n : ℤ) → isNan x ≡ false → isNan (mul f x (power n)) ≡ false
 unfolding isNan
 mul-number f nan n h = absurd (subst T h tt)
 mul-number f (inf s) n h = ap isNan (mul-inf f s n)
-mul-number f (fin s m e) n h = ap isNan (mul-power f s m e n ∙ round-is f s (m * up e * up n) (down e * down n)) ∙ units-number f s _ _
+mul-number f (fin s m e) n h = ap isNan (mul-power f s m e n) ∙ round-number f s (m * up e * up n) (down e * down n)
 
 -- ---- half a unit or less rounds to zero
 units-zero : (f : Format) (s : Bool) (k : ℕ) → units f s 0 k ≡ fin s 0 (pos 0)
@@ -140,7 +143,7 @@ Held f nan = Unit {0}
 Held f (inf s) = Unit {0}
 Held f (fin s m e) = (q : ℕ) × (j : ℕ) × (q < 2 ^ prec f) × (q * 2 ^ j < overflow f) × HasValue (fin s m e) s (q * 2 ^ j) (2 ^ low f)
 
-place : (l m : ℕ) (e : ℤ) → down e ≤ 2 ^ l → (j : ℕ) × (m * up e * 2 ^ l ≡ m * 2 ^ j * down e)
+pub place : (l m : ℕ) (e : ℤ) → down e ≤ 2 ^ l → (j : ℕ) × (m * up e * 2 ^ l ≡ m * 2 ^ j * down e)
 place l m (pos a) h = (a + l, mul-assoc m (2 ^ a) (2 ^ l) ∙ ap (λ (x : ℕ). m * x) (sym (pow-add 2 a l)) ∙ sym (mul-one (m * 2 ^ (a + l))))
 place l m (negsuc a) h =
     let le : suc a ≤ l = pow-le-back (suc a) l h in

@@ -1,25 +1,27 @@
 -- `scaled` is the word of the kit's product with a power of two. Assumes nothing.
 use mathlib.Core.Path.{_≡_, subst, refl, sym, ap, _∙_}
-use Prim.Native.Nat.{ℕ, _*_, _%_, _^_, _≤_, _<_}
-use native.Mathlib.Nat.{mul-assoc, mul-pos}
+use Prim.Native.Nat.{ℕ, _+_, _-_, _*_, _/_, _%_, _^_, _≤_, _<_}
+use native.Mathlib.Nat.{mul-assoc, mul-pos, mod-eq-of-lt, lt-trans, lt-of-le-of-lt, zero-add, div-add-mod', mod-lt, div-lt-iff-lt-mul}
 use native.Mathlib.Omega.{arith}
 use mathlib.Core.Bool.{Bool, true, false, not, cond}
 use lib.Dec.{T, leb, ltb, eqb, ltb→lt, nltb→le, eqb→eq, T-not}
-use lib.Pow.{pow-pos}
+use lib.Arith.{lt→nleb}
+use lib.Bits.{bitAnd, bitOr, and-mask, and-high, or-shifted-r}
+use lib.Pow.{pow-pos, shr-mod, field}
 use lib.IntN.{ℤ}
 use lib.Ieee as Ieee
 use borrow.Author.Tests.{lt-ltb, le-ltb, eq-eqb, ne-eqb}
-use lib.Ieee.Bits.{nanBits-is}
+use lib.Ieee.Bits.{is-false, nanBits-is}
 use lib.Ieee.{isNan, nanBits, Float, up, down, mul, ofBits, toBits}
 use lib.Ieee.Fits.{eq→eqb, down-pos}
 use lib.Ieee.Exact.{HasValue}
 use Rattle.words.specs.Format.{Format, top, infinity, quiet, signed, units, ours}
-use Rattle.words.specs.Rounding.{rounded}
+use Rattle.words.specs.Rounding.{even, rounded}
 use Rattle.scale.specs.Scale.{scaled, power}
 use Rattle.words.proofs.Round.{toBits-round, toBits-inf}
-use Rattle.words.proofs.Rounded.{rounded-same, rounded-nothing}
+use Rattle.words.proofs.Rounded.{rounded-le, rounded-same, rounded-nothing}
 use Rattle.words.proofs.Floats.{word-number, word-nan, word-inf, word-val, toBits-nan}
-use Rattle.words.proofs.Words.{sign-and-size, infinity-some}
+use Rattle.words.proofs.Words.{sign-and-size, infinity-some, infinity-below}
 use Rattle.scale.proofs.Powers.{mul-number, mul-val, mul-nan, mul-inf}
 
 -- a finite value of a units
@@ -92,3 +94,34 @@ scaled-zero f w n P W e =
     scaled-finite f w n (subst (λ (z : ℕ). z < infinity f) (sym e) (infinity-some f))
     ∙ ap (signed f (leb (top f) w)) (ap (λ (z : ℕ). rounded f (units f z * up n) (down n)) e ∙ rounded-nothing f (up n) (down n) P (down-pos n) ∙ sym e)
     ∙ sign-and-size (top f) w W
+
+-- a finite word: its sign, and its size scaled
+pub scaled-signed : (f : Format) (w : ℕ) (n : ℤ) → w < 2 * top f → w % top f < infinity f → (scaled f (w % top f) n < top f) × (scaled f w n ≡ w / top f * top f + scaled f (w % top f) n)
+scaled-signed f w n W h =
+    let m = w % top f in
+    let t = top f in
+    let r = rounded f (units f m * up n) (down n) in
+    let again : m % t ≡ m = mod-eq-of-lt (lt-trans h (infinity-below f)) in
+    let size : scaled f m n ≡ r =
+    scaled-finite f m n (subst (λ (z : ℕ). z < infinity f) (sym again) h)
+    ∙ ap (λ (s : Bool). cond s t 0 + rounded f (units f (m % t) * up n) (down n)) (is-false (leb t m) (lt→nleb t m (lt-trans h (infinity-below f))))
+    ∙ zero-add (rounded f (units f (m % t) * up n) (down n))
+    ∙ ap (λ (z : ℕ). rounded f (units f z * up n) (down n)) again in
+    (subst (λ (z : ℕ). z < t) (sym size) (lt-of-le-of-lt (rounded-le even f _ _ _) (infinity-below f)), scaled-finite f w n h ∙ ap (λ (z : ℕ). z + r) (sign (cond (leb t w) t 0) (w / t * t) m w (sign-and-size t w W) (div-add-mod' w t)) ∙ ap (λ (z : ℕ). w / t * t + z) (sym size))
+  where
+    sign : (a b m w : ℕ) → a + m ≡ w → b + m ≡ w → a ≡ b
+    sign a b m w x y = omega arith
+
+-- the sign's digit k of a word, put beside a size
+pub sign-beside : (k x s : ℕ) → x < 2 ^ (1 + k) → s < 2 ^ k → bitOr s (bitAnd x (2 ^ (1 + k) - 2 ^ k)) ≡ x / 2 ^ k * 2 ^ k + s
+sign-beside k x s h l = ap (bitOr s) (and-high x 1 k ∙ ap (λ (z : ℕ). z * 2 ^ k) (shr-mod 1 k h)) ∙ or-shifted-r (x / 2 ^ k) k s l
+
+-- a field of j digits before k others that is not all ones
+pub finite-field : (j k x : ℕ) → (bitAnd (x / 2 ^ k) (2 ^ j - 1) ≡ 2 ^ j - 1 → ⊥) → x % 2 ^ (j + k) < (2 ^ j - 1) * 2 ^ k
+finite-field j k x h =
+    let q = x / 2 ^ k % 2 ^ j in
+    div-lt-iff-lt-mul (pow-pos k) .0
+    (subst (λ (z : ℕ). z < 2 ^ j - 1) (sym (field x j k)) (less q (2 ^ j) (mod-lt (x / 2 ^ k) (pow-pos j)) (λ (e : q ≡ 2 ^ j - 1). h (and-mask (x / 2 ^ k) j ∙ e))))
+  where
+    less : (q p : ℕ) → q < p → (q ≡ p - 1 → ⊥) → q < p - 1
+    less q p l n = omega arith

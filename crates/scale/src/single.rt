@@ -1,5 +1,6 @@
 // Scaling of f32 words.
 ghost use mathlib.Core.Path.{_≡_};
+ghost use Prim.Native.Nat.{_<_};
 ghost use lib.Ieee as Ieee;
 ghost use Rattle.words.specs.Format.{binary32};
 ghost use Rattle.words.specs.Answers.{answered};
@@ -66,14 +67,51 @@ pub fn scale32(x: f32, n: i32) -> f32
     x * power32(n)
 }
 
-// The word of x times 2^n, as a plain word. Only a NaN's word gives the NaN.
+// The word of m times 2^n for a word m below the normal numbers'. Such a word is its own number of
+// units, 2^-149, and a whole float; so no multiplication meets a subnormal number, which would be
+// slow: where the result has fewer than 2^23 units, they are added to 2^23, which rounds them to a
+// whole number in the sum's last digits.
+fn tiny32(m: u32, n: i32) -> u32
+    requires { ⌜ m < 0x00800000 ⌝ }
+    ensures { λ r. ⌜ r ≡ scaled binary32 m n ⌝ }
+{
+    let units = m as f32;
+    let k = clamp(n, -126, 277);
+    let y = scale32(units, k);
+    let x1p23 = f32::from_bits(0x4b000000);
+    if y < x1p23 {
+        return f32::to_bits(y + x1p23) - 0x4b000000;
+    }
+    f32::to_bits(scale32(units, k - 149))
+}
+
+// The word of x times 2^n for every x and n. Only a NaN's word gives the NaN.
+fn rare32(x: u32, n: i32) -> u32
+    ensures { λ r. ⌜ r ≡ scaled binary32 x n ⌝ }
+{
+    let ix = x & 0x7fffffff;
+    if ix > 0x7f800000 {
+        return 0x7fc00000;
+    }
+    if ix < 0x00800000 {
+        return tiny32(ix, n) | (x & 0x80000000);
+    }
+    f32::to_bits(scale32(f32::from_bits(x), n))
+}
+
+// The word of x times 2^n, as a plain word: one multiplication for a normal x and n. The rest is
+// called from two places, since a compiler would take what is called once into every loop over this.
 pub fn scaled32(x: u32, n: i32) -> u32
     ensures { λ r. ⌜ r ≡ scaled binary32 x n ⌝ }
 {
-    if (x & 0x7fffffff) > 0x7f800000 {
-        return 0x7fc00000;
+    let field = (x >> 23) & 0xff;
+    if field == 0 || field == 0xff {
+        return rare32(x, n);
     }
-    f32::to_bits(scale32(f32::from_bits(x), n))
+    if n > 127 || n < -126 {
+        return rare32(x, n);
+    }
+    f32::to_bits(f32::from_bits(x) * power32(n))
 }
 
 // x times 2^n.
