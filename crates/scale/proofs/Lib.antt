@@ -4,5 +4,7 @@ pub mod Far
 pub mod Ways
 pub mod Fields
 pub mod Scaled
+pub mod Exponents
+pub mod Sums
 pub mod Tiny
 pub mod Machine

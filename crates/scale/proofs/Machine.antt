@@ -15,7 +15,8 @@ use Rattle.scale.specs.Scale.{scaled, power}
 use Rattle.scale.specs.Steps.{Normal, pastUp, pastDown, fall, stepFloat, stepLeft, between, clamped}
 use Rattle.scale.proofs.Ways.{scale-steps, up-fits, down-fits, left-fits, inside-normal}
 use Rattle.scale.proofs.Fields.{Field, field-of}
-use Rattle.scale.proofs.Tiny.{tinyExponent, held-far, least-held, most-held, whole-number, by-whole, sum-number, by-sum}
+use Rattle.scale.proofs.Exponents.{tinyExponent, least-held, most-held}
+use Rattle.scale.proofs.Tiny.{held-far, whole-number, by-whole, sum-number, by-sum}
 
 -- what is read back of a number
 abbrev pub held : Width → ℤ → ℤ

@@ -1,225 +1,31 @@
--- A word below the normal numbers' is its own number of units. Its product with 2 ^ n is that of a whole float with 2 ^ (n - low); and where it has fewer units than the least normal number, they stand in the last digits of their sum with that many. Over the kit's formats. Assumes nothing.
+-- A word below the normal numbers' is its own number of units: its product with 2 ^ n is that of a whole float with 2 ^ (n - low). Over the kit's formats. Assumes nothing.
 use mathlib.Core.Path.{_≡_, refl, sym, ap, _∙_, subst}
-use Prim.Native.Nat.{ℕ, suc, _+_, _-_, _*_, _/_, _%_, _^_, _≤_, _<_, min, compare, Ordering, Ordering·lt, Ordering·eq, Ordering·gt}
-use native.Mathlib.Nat.{pow-suc, pow-succ', zero-add, mul-le-mul-left, le-refl, le-trans, le-of-eq, le-of-lt, lt-of-lt-of-le, lt-of-le-of-lt, mul-one, one-mul, mul-pos, mul-le-mul-right, lt-of-mul-lt-mul-right, mul-lt-mul-of-pos-right, div-eq-of-lt, mod-eq-of-lt, mul-add-div-right, mul-add-mod-self-right, le-div-iff-mul-le, div-lt-iff-lt-mul}
+use Prim.Native.Nat.{ℕ, suc, _+_, _-_, _*_, _%_, _^_, _≤_, _<_}
+use native.Mathlib.Nat.{pow-suc, zero-add, mul-le-mul-left, le-refl, le-trans, le-of-eq, le-of-lt, lt-of-lt-of-le, one-mul, mul-pos, mul-le-mul-right, lt-of-mul-lt-mul-right, div-eq-of-lt, mod-eq-of-lt}
 use native.Mathlib.Omega.{arith}
 use mathlib.Core.Bool.{Bool, true, false, not, cond}
-use lib.Dec.{T, leb, ltb, ltb→lt, nltb→le, leb→le, le→leb, lit≤}
+use lib.Dec.{T, leb, ltb, ltb→lt, nltb→le, leb→le, lit≤}
 use lib.Arith.{lt→nleb}
-use lib.Pow.{pow-add, pow-pos, pow-mono}
-use lib.IntN.{ℤ, pos, negsuc, _-ℤ_, natAbs}
-use lib.Signed.{_≤ℤ_, ≤ℤ-refl, leZ-yes}
-use mir.Syntax.{Width}
-use mir.Val.{SFits, hbits}
-use lib.Ieee.{Float, nan, inf, fin, Format, binary32, binary64, prec, emax, low, hid, ones, top, up, down, size, nearest, round, add, sum, mul, lt, isNan, ofInt, ofBits, toBits}
+use lib.Pow.{pow-pos, pow-mono}
+use lib.IntN.{ℤ, pos, negsuc, _-ℤ_}
+use lib.Signed.{_≤ℤ_}
+use lib.Ieee.{Float, fin, Format, binary32, binary64, prec, emax, low, hid, ones, top, up, down, round, add, mul, lt, isNan, ofInt, ofBits, toBits}
 use lib.Ieee.Back.{round-whole}
 use lib.Ieee.Bits.{is-false, ofBits-fits}
-use lib.Ieee.Digits.{size-le}
 use lib.Ieee.Exact.{HasValue, round-exact}
-use lib.Ieee.Fits.{two, reach, down-pos, nearest-le}
-use lib.Ieee.Nearest.{closest, closest-same}
+use lib.Ieee.Fits.{down-pos}
 use lib.Ieee.Scale.{round-same, overflow}
 use Rattle.words.specs.Format.{infinity, units, ours}
-use Rattle.words.specs.Rounding.{places, rounded}
-use Rattle.words.proofs.Digits.{size-exact}
-use Rattle.words.proofs.Even.{rounded-nearest}
+use Rattle.words.specs.Rounding.{rounded}
 use Rattle.words.proofs.Floats.{word-val}
 use Rattle.words.proofs.Round.{toBits-round}
-use Rattle.words.proofs.Ties.{hid-even}
 use Rattle.words.proofs.Units.{units-sub}
-use Rattle.words.proofs.Words.{infinity-some}
 use Rattle.scale.specs.Scale.{scaled, power}
-use Rattle.scale.specs.Steps.{between}
 use Rattle.scale.proofs.Powers.{mul-val, round-number, round-zero, round-inf, place}
 use Rattle.scale.proofs.Far.{clamp-up}
 use Rattle.scale.proofs.Scaled.{scaled-is, scaled-finite}
-
--- ---- the exponent: held where no unit is lost below, and where every size but zero is an infinity above
-abbrev pub tinyExponent : Format → ℤ → ℤ
-tinyExponent f n = between (negsuc (emax f - 2)) (pos (low f + suc (emax f))) n
-
-pub least-held : (f : Format) (n : ℤ) → negsuc (emax f - 2) ≤ℤ tinyExponent f n
-least-held f (pos a) = go (ltb (low f + suc (emax f)) a)
-  where
-    go : (t : Bool) → negsuc (emax f - 2) ≤ℤ cond t (pos (low f + suc (emax f))) (pos a)
-    go true = leZ-yes tt
-    go false = leZ-yes tt
-least-held f (negsuc a) = go (ltb (emax f - 2) a) (nltb→le (emax f - 2) a)
-  where
-    go : (t : Bool) → (T (not t) → a ≤ emax f - 2) → negsuc (emax f - 2) ≤ℤ cond t (negsuc (emax f - 2)) (negsuc a)
-    go true l = ≤ℤ-refl (negsuc (emax f - 2))
-    go false l = leZ-yes (le→leb a (emax f - 2) (l tt))
-
--- ---- 2 ^ (k - l) is 2 ^ k by 2 ^ l
-lowered : (k : ℤ) (b : ℕ) → up (k -ℤ pos (suc b)) * (2 ^ suc b * down k) ≡ up k * down (k -ℤ pos (suc b))
-lowered (pos a) b = go (ltb a (suc b)) (ltb→lt a (suc b)) (nltb→le a (suc b))
-  where
-    less : (a b : ℕ) → a < suc b → suc b ≡ a + suc (suc b - suc a)
-    less a b h = omega arith
-
-    more : (a b : ℕ) → suc b ≤ a → a ≡ a - suc b + suc b
-    more a b h = omega arith
-
-    one : (x y : ℕ) → x ≡ y → 1 * (x * 1) ≡ y
-    one x y e = omega arith
-
-    both : (x y z : ℕ) → z ≡ x * y → x * (y * 1) ≡ z * 1
-    both x y z e = omega arith
-
-    go : (t : Bool) → (T t → a < suc b) → (T (not t) → suc b ≤ a)
-        → up (cond t (negsuc (suc b - suc a)) (pos (a - suc b))) * (2 ^ suc b * 1) ≡ 2 ^ a * down (cond t (negsuc (suc b - suc a)) (pos (a - suc b)))
-    go true l g = one (2 ^ suc b) (2 ^ a * 2 ^ suc (suc b - suc a)) (ap (λ (z : ℕ). 2 ^ z) (less a b (l tt)) ∙ pow-add 2 a (suc (suc b - suc a)))
-    go false l g = both (2 ^ (a - suc b)) (2 ^ suc b) (2 ^ a) (ap (λ (z : ℕ). 2 ^ z) (more a b (g tt)) ∙ pow-add 2 (a - suc b) (suc b))
-lowered (negsuc a) b = both (2 ^ suc b) (2 ^ suc a) (2 ^ suc (suc (a + b))) (ap (λ (z : ℕ). 2 ^ z) (same a b) ∙ pow-add 2 (suc b) (suc a))
-  where
-    same : (a b : ℕ) → suc (suc (a + b)) ≡ suc b + suc a
-    same a b = omega arith
-
-    both : (x y z : ℕ) → z ≡ x * y → 1 * (x * y) ≡ 1 * z
-    both x y z e = omega arith
-
-low-some : (f : Format) → low f ≡ suc (low f - 1)
-low-some binary32 = refl
-low-some binary64 = refl
-
-lowered-by : (f : Format) (k : ℤ) → up (k -ℤ pos (low f)) * (2 ^ low f * down k) ≡ up k * down (k -ℤ pos (low f))
-lowered-by f k = subst (λ (l : ℕ). up (k -ℤ pos l) * (2 ^ l * down k) ≡ up k * down (k -ℤ pos l)) (sym (low-some f)) (lowered k (low f - 1))
-
--- it stays in a machine's number
-less-fits : (w : Width) (k : ℤ) (b : ℕ) → natAbs k + b + 1 < 2 ^ hbits w → SFits w (k -ℤ pos (suc b))
-less-fits w (pos a) b h = go (ltb a (suc b))
-  where
-    down-to : (a b W : ℕ) → a + b + 1 < W → suc b - suc a < W
-    down-to a b W h = omega arith
-
-    up-to : (a b W : ℕ) → a + b + 1 < W → a - suc b < W
-    up-to a b W h = omega arith
-
-    go : (t : Bool) → SFits w (cond t (negsuc (suc b - suc a)) (pos (a - suc b)))
-    go true = record { sfits = down-to a b (2 ^ hbits w) h }
-    go false = record { sfits = up-to a b (2 ^ hbits w) h }
-less-fits w (negsuc a) b h = record { sfits = within a b (2 ^ hbits w) h }
-  where
-    within : (a b W : ℕ) → suc a + b + 1 < W → suc (a + b) < W
-    within a b W h = omega arith
-
-pub most-held : (f : Format) (w : Width) (n : ℤ) → low f + suc (emax f) + low f + 1 < 2 ^ hbits w → SFits w (tinyExponent f n -ℤ pos (low f))
-most-held f w n W = subst (λ (l : ℕ). SFits w (tinyExponent f n -ℤ pos l)) (sym (low-some f)) (less-fits w (tinyExponent f n) (low f - 1) (lt-of-le-of-lt (add-up (natAbs (tinyExponent f n)) (low f + suc (emax f)) (low f) (size-held f n)) W))
-  where
-    add-up : (a k l : ℕ) → a ≤ k → a + (l - 1) + 1 ≤ k + l + 1
-    add-up a k l h = omega arith
-
-    size-held : (f : Format) (n : ℤ) → natAbs (tinyExponent f n) ≤ low f + suc (emax f)
-    size-held f (pos a) = go (ltb (low f + suc (emax f)) a) (nltb→le (low f + suc (emax f)) a)
-      where
-        go : (t : Bool) → (T (not t) → a ≤ low f + suc (emax f)) → natAbs (cond t (pos (low f + suc (emax f))) (pos a)) ≤ low f + suc (emax f)
-        go true l = le-refl (low f + suc (emax f))
-        go false l = l tt
-    size-held f (negsuc a) = go (ltb (emax f - 2) a) (nltb→le (emax f - 2) a)
-      where
-        room : (e l a : ℕ) → a ≤ e - 2 → suc a ≤ l + suc e
-        room e l a h = omega arith
-
-        go : (t : Bool) → (T (not t) → a ≤ emax f - 2) → natAbs (cond t (negsuc (emax f - 2)) (negsuc a)) ≤ low f + suc (emax f)
-        go true l = room (emax f) (low f) (emax f - 2) (le-refl (emax f - 2))
-        go false l = room (emax f) (low f) a (l tt)
-
--- ---- a float below 2 ^ d, and its sum with it
-below-power : (y : Float) (a c d : ℕ) → 0 < c → HasValue y false a c → lt y (power (pos d)) ≡ true → a < 2 ^ d * c
-unfolding lt
-below-power nan a c d C v h = absurd v
-below-power (inf s) a c d C v h = absurd v
-below-power (fin true m e) a c d C v h = absurd (subst T (v .0) tt)
-below-power (fin false m e) a c d C v h =
-    lt-of-mul-lt-mul-right (down e) (turn (m * up e) (down e) (2 ^ d) (v .1) (mul-lt-mul-of-pos-right (ltb→lt (m * up e * 1) (1 * 2 ^ d * down e) (subst T (sym h) tt)) C))
-  where
-    turn : (x w p : ℕ) → x * c ≡ a * w → x * 1 * c < 1 * p * w * c → a * w < p * c * w
-    turn x w p e h = omega (arith, e, h)
-
-add-power : (f : Format) (y : Float) (a c d : ℕ) → 0 < c → HasValue y false a c → add f y (power (pos d)) ≡ round f false (2 ^ d * c + a) c
-unfolding add sum
-add-power f nan a c d C v = absurd v
-add-power f (inf s) a c d C v = absurd v
-add-power f (fin true m e) a c d C v = absurd (subst T (v .0) tt)
-add-power f (fin false m e) a c d C v =
-    round-same f false (m * up e * 1 + 1 * 2 ^ d * down e) (down e * 1) (2 ^ d * c + a) c (mul-pos (down-pos e) (lit≤ tt)) C (turn (m * up e) (down e) (2 ^ d) (v .1))
-  where
-    turn : (x w p : ℕ) → x * c ≡ a * w → (x * 1 + 1 * p * w) * c ≡ (p * c + a) * (w * 1)
-    turn x w p e = omega (arith, e)
-
--- ---- fewer units than the least normal number has, by themselves and beside that many
-nearest-beside : (g q : ℕ) (o : Ordering) → nearest (2 * g + q) o ≡ 2 * g + nearest q o
-nearest-beside g q Ordering·lt = refl
-nearest-beside g q Ordering·eq = omega arith
-nearest-beside g q Ordering·gt = omega arith
-
-closest-beside : (h a c : ℕ) → 0 < c → (g : ℕ) → h ≡ 2 * g → closest (h * c + a) c ≡ h + closest a c
-closest-beside h a c C g e =
-    (λ i. nearest (mul-add-div-right C h a i) (compare (mul-add-mod-self-right h c a i * 2) c))
-    ∙ subst (λ (z : ℕ). nearest (z + a / c) (compare (a % c * 2) c) ≡ z + closest a c) (sym e) (nearest-beside g (a / c) (compare (a % c * 2) c))
-
-module _ (f : Format) (a c : ℕ) (C : 0 < c) (A : a < hid f * c) where
-  closest-small : closest a c ≤ hid f
-  closest-small = le-trans (nearest-le (a / c) (compare (a % c * 2) c)) (div-lt-iff-lt-mul C .1 A)
-
-  rounded-alone : rounded (ours f) a c ≡ closest a c
-  rounded-alone =
-      rounded-nearest (ours f) a c C (infinity-some (ours f))
-      ∙ ap (λ (k : ℕ). min (k * hid f + closest a (c * 2 ^ k)) (infinity (ours f))) none
-      ∙ ap (λ (z : ℕ). min (0 * hid f + closest a z) (infinity (ours f))) (mul-one c)
-      ∙ least (hid f) (emax f) (closest a c) closest-small
-    where
-      fewer : (z p : ℕ) → z ≤ p - 1 → z - p ≡ 0
-      fewer z p h = omega arith
-
-      none : places (ours f) a c ≡ 0
-      none = fewer (size (a / c)) (prec f) (size-le (a / c) (prec f - 1) (div-lt-iff-lt-mul C .1 A))
-
-      least : (h e r : ℕ) → r ≤ h → min (0 * h + r) ((2 * e + 1) * h) ≡ r
-      least h e r l = omega arith
-
-  rounded-beside : rounded (ours f) ((hid f * c + a) * 2 ^ low f) c ≡ (low f + 1) * hid f + rounded (ours f) a c
-  rounded-beside =
-      rounded-nearest (ours f) n c C (infinity-some (ours f))
-      ∙ ap (λ (k : ℕ). min (k * hid f + closest n (c * 2 ^ k)) (infinity (ours f))) drops
-      ∙ ap (λ (z : ℕ). min (low f * hid f + z) (infinity (ours f))) (closest-same n (c * 2 ^ low f) (hid f * c + a) c (mul-pos C (pow-pos (low f))) C (turn (hid f * c + a) (2 ^ low f) c) ∙ closest-beside (hid f) a c C (2 ^ (prec f - 1 - 1)) (hid-even (ours f) (two f)))
-      ∙ least (hid f) (emax f) (prec f) (closest a c) (two f) (reach f) closest-small
-      ∙ ap (λ (z : ℕ). (low f + 1) * hid f + z) (sym rounded-alone)
-    where
-      n : ℕ
-      n = (hid f * c + a) * 2 ^ low f
-
-      turn : (x l c : ℕ) → x * l * c ≡ x * (c * l)
-      turn x l c = omega arith
-
-      all : (z p l : ℕ) → 2 ≤ p → z ≡ suc (p - 1 + l) → z - p ≡ l
-      all z p l P e = omega arith
-
-      from : (h l x : ℕ) → x ≡ h * l → x * c ≤ (h * c + a) * l
-      from h l x e = omega (arith, ap (λ (z : ℕ). z * c) e)
-
-      to : (h l x : ℕ) → 0 < l → x ≡ h * l → a < h * c → (h * c + a) * l < 2 * x * c
-      to h l x L e s = omega (arith, ap (λ (z : ℕ). z * c) e, mul-lt-mul-of-pos-right s L)
-
-      drops : places (ours f) n c ≡ low f
-      drops =
-          let e : 2 ^ (prec f - 1 + low f) ≡ hid f * 2 ^ low f = pow-add 2 (prec f - 1) (low f) in
-          let d : 2 ^ suc (prec f - 1 + low f) ≡ 2 * 2 ^ (prec f - 1 + low f) = pow-succ' 2 (prec f - 1 + low f) in
-          all (size (n / c)) (prec f) (low f) (two f)
-          (size-exact (prec f - 1 + low f) (n / c) (le-div-iff-mul-le C .1 (from (hid f) (2 ^ low f) (2 ^ (prec f - 1 + low f)) e))
-          (div-lt-iff-lt-mul C .1 (subst (λ (z : ℕ). n < z * c) (sym d) (to (hid f) (2 ^ low f) (2 ^ (prec f - 1 + low f)) (pow-pos (low f)) e A))))
-
-      least : (h e p r : ℕ) → 2 ≤ p → p ≤ suc e → r ≤ h → min ((e + p - 2) * h + (h + r)) ((2 * e + 1) * h) ≡ (e + p - 2 + 1) * h + r
-      least h e p r P R l = under ((e + p - 2) * h + (h + r)) ((2 * e + 1) * h) ((e + p - 2 + 1) * h + r) (omega arith) (le-trans (most (e + p - 2) h r l) (mul-le-mul-right h (room e p P R)))
-        where
-          under : (x y z : ℕ) → x ≡ z → x ≤ y → min x y ≡ z
-          under x y z e l = omega arith
-
-          most : (k h r : ℕ) → r ≤ h → k * h + (h + r) ≤ (k + 2) * h
-          most k h r l = omega arith
-
-          room : (e p : ℕ) → 2 ≤ p → p ≤ suc e → e + p - 2 + 2 ≤ 2 * e + 1
-          room e p P R = omega arith
+use Rattle.scale.proofs.Exponents.{lowered-by, tinyExponent}
+use Rattle.scale.proofs.Sums.{add-power, below-power, rounded-beside}
 
 -- ---- a word below the normal numbers'
 module _ (f : Format) (m : ℕ) (M : m < hid f) where

@@ -1,15 +1,28 @@
--- What is kept of num / den units, and what it rounds to: equal fractions alike, nothing to nothing. Over any format. Assumes nothing.
+-- What is kept of num / den units, and what it rounds to: equal fractions alike, nothing to nothing, never past infinity. Over any format. Assumes nothing.
 use mathlib.Core.Path.{_≡_, sym, ap, _∙_, subst}
 use Prim.Native.Nat.{ℕ, _+_, _-_, _*_, _/_, _^_, _≤_, _<_, min}
 use native.Mathlib.Nat.{zero-div, zero-mod, le-trans, le-of-eq, mul-comm, mul-div-mul-left, div-div-eq-div-mul, le-div-iff-mul-le}
 use native.Mathlib.Omega.{arith}
+use mathlib.Core.Bool.{Bool, true, false}
 use lib.Pow.{pow-add, pow-pos}
 use lib.Ieee.{size}
 use lib.Ieee.Digits.{size-reaches}
 use lib.Ieee.Fits.{kept-lt}
-use Rattle.words.specs.Format.{Format, hid, units, unitsAt}
-use Rattle.words.specs.Rounding.{even, most, places, kept, wordAt, roundedAt, rounded}
+use Rattle.words.specs.Format.{Format, hid, infinity, units, unitsAt}
+use Rattle.words.specs.Rounding.{Rule, even, bit, most, places, kept, wordAt, roundedAt, rounded}
+use Rattle.words.proofs.Words.{infinity-some}
 use Rattle.words.proofs.Cut.{cut-same, cut-left}
+
+bit-le : (b : Bool) → bit b ≤ 1
+bit-le true = omega arith
+bit-le false = omega arith
+
+most-le : (r : Rule) (f : Format) → most r f ≤ infinity f
+most-le r f = omega (arith, infinity-some f, bit-le (r true true true))
+
+pub rounded-le : (r : Rule) (f : Format) (k q : ℕ) (more : Bool) → roundedAt r f k q more ≤ infinity f
+unfolding roundedAt
+rounded-le r f k q more = omega (arith, most-le r f)
 
 -- ---- equal fractions round alike
 pub rounded-same : (f : Format) (a b c d : ℕ) → 0 < b → 0 < d → a * d ≡ c * b → rounded f a b ≡ rounded f c d
