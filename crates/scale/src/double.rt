@@ -66,11 +66,12 @@ pub fn scale64(x: f64, n: i32) -> f64
     x * power64(n)
 }
 
-// The word of x times 2^n, as a plain word. Only a NaN's word gives the NaN.
+// The word of x times 2^n, as a plain word. Only a NaN's word gives the NaN; the shift drops the
+// sign.
 pub fn scaled64(x: u64, n: i32) -> u64
     ensures { λ r. ⌜ r ≡ scaled binary64 x n ⌝ }
 {
-    if (x & 0x7fffffffffffffff) > 0x7ff0000000000000 {
+    if (x << 1) > 0xffe0000000000000 {
         return 0x7ff8000000000000;
     }
     f64::to_bits(scale64(f64::from_bits(x), n))

@@ -1,11 +1,13 @@
 -- `scale::double::scaled64` meets its contract: a NaN's word apart, the word of the kit's product with 2 ^ n. Assumes nothing.
 use borrow.Author.Needs.{needs}
-use mathlib.Core.Path.{sym, ap, _∙_, subst}
-use Prim.Native.Nat.{ℕ, _%_, _^_, _≤_, _<_}
+use mathlib.Core.Path.{_≡_, sym, ap, _∙_, subst}
+use Prim.Native.Nat.{ℕ, _+_, _*_, _/_, _%_, _^_, _≤_, _<_}
 use mathlib.Core.Bool.{not}
 use lib.Dec.{T}
-use lib.Bits.{and-mask}
 use lib.IntN.{ℤ}
+use native.Mathlib.Nat.{div-add-mod', mul-add-mod-self-right, mod-eq-of-lt, mod-lt}
+use lib.Pow.{pow-pos}
+use native.Mathlib.Omega.{arith}
 use lib.Ieee.{Float, binary64, mul, ofBits, toBits, isNan}
 use mir.Syntax.{w32}
 use mir.ValLaws.{toZ-ofZ}
@@ -16,15 +18,31 @@ use Rattle.scale.proofs.Scaled.{scaled-is, scaled-nan, scaled-number}
 use Rattle.scale.proofs.double.scaled64.Statement.{statement}
 use Rattle.scale.proofs.double.scaled64.Tie as tie
 
+-- the shift drops the sign and doubles the rest
+doubled : (x : ℕ) → x * 2 % 2 ^ 64 ≡ x % 2 ^ 63 * 2
+doubled x = ap (λ (z : ℕ). z * 2 % 2 ^ 64) (sym (div-add-mod' x (2 ^ 63))) ∙ (ap (λ (z : ℕ). z % 2 ^ 64) (spread (x / 2 ^ 63) (x % 2 ^ 63)) ∙ (mul-add-mod-self-right (x / 2 ^ 63) (2 ^ 64) (x % 2 ^ 63 * 2) ∙ mod-eq-of-lt (small (x % 2 ^ 63) (mod-lt x (pow-pos 63)))))
+  where
+    spread : (q r : ℕ) → (q * 2 ^ 63 + r) * 2 ≡ q * 2 ^ 64 + r * 2
+    spread q r = omega arith
+
+    small : (r : ℕ) → r < 2 ^ 63 → r * 2 < 2 ^ 64
+    small r h = omega arith
+
+above : (x : ℕ) → 0xffe0_0000_0000_0000 < x * 2 % 2 ^ 64 → 0x7ff0_0000_0000_0000 < x % 2 ^ 63
+above x h = omega (arith, doubled x)
+
+within : (x : ℕ) → x * 2 % 2 ^ 64 ≤ 0xffe0_0000_0000_0000 → x % 2 ^ 63 ≤ 0x7ff0_0000_0000_0000
+within x h = omega (arith, doubled x)
+
 -- past the test the word is no NaN's
 number : (c : tie.Else1) → c .before .args .x % 2 ^ 63 ≤ 0x7ff0_0000_0000_0000
-number c = subst (λ (z : ℕ). z ≤ 0x7ff0_0000_0000_0000) (and-mask (c .before .args .x) 63) (c .if1 .left)
+number c = within (c .before .args .x) (c .if1 .left)
 
 pub scaled64-spec : {M : Type 1} → statement M
 scaled64-spec =
     tie.close
     (tie.spec
-    (λ c. scaled-nan Format.binary64 (c .before .args .x) (c .before .args .n) (subst (λ (z : ℕ). 0x7ff0_0000_0000_0000 < z) (and-mask (c .before .args .x) 63) (c .if1 .taken)))
+    (λ c. scaled-nan Format.binary64 (c .before .args .x) (c .before .args .n) (above (c .before .args .x) (c .if1 .taken)))
     (λ c. word-number binary64 (c .before .args .x) (number c))
     (λ c κs. search needs)
     (λ c. subst (λ (v : Float). T (not (isNan v))) (sym (c .scale64 .ensures)) (scaled-number binary64 (c .before .before .args .x) _ (number (c .before))))
