@@ -13,7 +13,7 @@ use lib.Ieee.Scale.{overflow}
 use Rattle.scale.specs.Scale.{power}
 use Rattle.scale.proofs.Powers.{mul-val, mul-nan, mul-inf, round-zero, round-inf, held}
 
-far-up : (f : Format) (x : Float) (s : Bool) (a n : ℕ) → HasValue x s a (2 ^ low f) → low f + suc (emax f) ≤ n → mul f x (power (pos n)) ≡ elim (eq-zero-or-pos a) [ inl z ↦ fin s 0 (pos 0) | inr z ↦ inf s ]
+pub far-up : (f : Format) (x : Float) (s : Bool) (a n : ℕ) → HasValue x s a (2 ^ low f) → low f + suc (emax f) ≤ n → mul f x (power (pos n)) ≡ elim (eq-zero-or-pos a) [ inl z ↦ fin s 0 (pos 0) | inr z ↦ inf s ]
 far-up f x s a n v h = go (eq-zero-or-pos a)
   where
     l : ℕ
@@ -38,7 +38,7 @@ clamp-up f nan n k h a b = mul-nan f (pos n) ∙ sym (mul-nan f (pos k))
 clamp-up f (inf s) n k h a b = mul-inf f s (pos n) ∙ sym (mul-inf f s (pos k))
 clamp-up f (fin s m e) n k h a b = let v = held f (fin s m e) h in far-up f (fin s m e) s (v .0 * 2 ^ (v .1)) n (v .4) a ∙ sym (far-up f (fin s m e) s (v .0 * 2 ^ (v .1)) k (v .4) b)
 
-far-down : (f : Format) (x : Float) (s : Bool) (a n : ℕ) → HasValue x s a (2 ^ low f) → a < overflow f → low f + suc (emax f) ≤ n → mul f x (power (negsuc n)) ≡ fin s 0 (pos 0)
+pub far-down : (f : Format) (x : Float) (s : Bool) (a n : ℕ) → HasValue x s a (2 ^ low f) → a < overflow f → low f + suc (emax f) ≤ n → mul f x (power (negsuc n)) ≡ fin s 0 (pos 0)
 far-down f x s a n v o h =
     let l = 2 ^ low f in
     mul-val f x s a l (negsuc n) (pow-pos (low f)) v

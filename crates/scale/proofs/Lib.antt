@@ -4,6 +4,7 @@ pub mod Far
 pub mod Ways
 pub mod Fields
 pub mod Scaled
+pub mod Limits
 pub mod Exponents
 pub mod Sums
 pub mod Tiny

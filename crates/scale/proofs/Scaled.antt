@@ -1,12 +1,13 @@
 -- `scaled` is the word of the kit's product with a power of two. Assumes nothing.
 use mathlib.Core.Path.{_≡_, subst, refl, sym, ap, _∙_}
+use mathlib.Core.Logic.{_⊎_, inl, inr}
 use Prim.Native.Nat.{ℕ, _+_, _-_, _*_, _/_, _%_, _^_, _≤_, _<_}
 use native.Mathlib.Nat.{mul-assoc, mul-pos, mod-eq-of-lt, lt-trans, lt-of-le-of-lt, zero-add, div-add-mod', mod-lt, div-lt-iff-lt-mul}
 use native.Mathlib.Omega.{arith}
 use mathlib.Core.Bool.{Bool, true, false, not, cond}
 use lib.Dec.{T, leb, ltb, eqb, ltb→lt, nltb→le, eqb→eq, T-not}
 use lib.Arith.{lt→nleb}
-use lib.Bits.{bitAnd, bitOr, and-mask, and-high, or-shifted-r}
+use lib.Bits.{bitAnd, bitOr, and-mask, and-high, or-shifted}
 use lib.Pow.{pow-pos, shr-mod, field}
 use lib.IntN.{ℤ}
 use lib.Ieee as Ieee
@@ -112,9 +113,17 @@ scaled-signed f w n W h =
     sign : (a b m w : ℕ) → a + m ≡ w → b + m ≡ w → a ≡ b
     sign a b m w x y = omega arith
 
--- the sign's digit k of a word, put beside a size
-pub sign-beside : (k x s : ℕ) → x < 2 ^ (1 + k) → s < 2 ^ k → bitOr s (bitAnd x (2 ^ (1 + k) - 2 ^ k)) ≡ x / 2 ^ k * 2 ^ k + s
-sign-beside k x s h l = ap (bitOr s) (and-high x 1 k ∙ ap (λ (z : ℕ). z * 2 ^ k) (shr-mod 1 k h)) ∙ or-shifted-r (x / 2 ^ k) k s l
+-- a zero and an infinity stay as they are
+pub scaled-kept : (f : Format) (w ix : ℕ) (n : ℤ) → 0 < f .digits → w < 2 * top f → ix ≡ w % top f → (ix ≡ 0) ⊎ (ix ≡ infinity f) → w ≡ scaled f w n
+scaled-kept f w ix n P W e (inl z) = sym (scaled-zero f w n P W (sym e ∙ z))
+scaled-kept f w ix n P W e (inr z) = sym (scaled-infinity f w n (sym e ∙ z))
+
+-- the sign's digit k of a word, alone and before a size
+pub sign-alone : (k x : ℕ) → x < 2 ^ (1 + k) → bitAnd x (2 ^ (1 + k) - 2 ^ k) ≡ x / 2 ^ k * 2 ^ k
+sign-alone k x h = and-high x 1 k ∙ ap (λ (z : ℕ). z * 2 ^ k) (shr-mod 1 k h)
+
+pub sign-before : (k x s : ℕ) → x < 2 ^ (1 + k) → s < 2 ^ k → bitOr (bitAnd x (2 ^ (1 + k) - 2 ^ k)) s ≡ x / 2 ^ k * 2 ^ k + s
+sign-before k x s h l = ap (λ (z : ℕ). bitOr z s) (sign-alone k x h) ∙ or-shifted (x / 2 ^ k) k s l
 
 -- a field of j digits before k others that is not all ones
 pub finite-field : (j k x : ℕ) → (bitAnd (x / 2 ^ k) (2 ^ j - 1) ≡ 2 ^ j - 1 → ⊥) → x % 2 ^ (j + k) < (2 ^ j - 1) * 2 ^ k

@@ -1,7 +1,8 @@
 // Scaling of f64 words.
 ghost use mathlib.Core.Path.{_≡_};
+ghost use Prim.Native.Nat.{_≤_};
 ghost use lib.Ieee as Ieee;
-ghost use Rattle.words.specs.Format.{binary64};
+ghost use Rattle.words.specs.Format.{binary64, infinity, magnitude};
 ghost use Rattle.words.specs.Answers.{answered};
 ghost use Rattle.scale.specs.Scale.{scaled, power};
 ghost use Rattle.scale.specs.Steps.{Normal, stepFloat, stepLeft};
@@ -66,6 +67,34 @@ pub fn scale64(x: f64, n: i32) -> f64
     x * power64(n)
 }
 
+// The word of x times 2^n for a word that is no NaN's and a normal exponent n: one multiplication.
+pub fn near64(x: u64, n: i32) -> u64
+    requires { ⌜ magnitude binary64 x ≤ infinity binary64 ⌝ }
+    requires { ⌜ Normal Ieee.binary64 n ⌝ }
+    ensures { λ r. ⌜ r ≡ scaled binary64 x n ⌝ }
+{
+    f64::to_bits(f64::from_bits(x) * power64(n))
+}
+
+// The word of x times 2^n for a word that is no NaN's. Zeros and infinities are unchanged; any other
+// number is an infinity 2098 places up, and a zero 2098 places down.
+fn number64(x: u64, n: i32) -> u64
+    requires { ⌜ magnitude binary64 x ≤ infinity binary64 ⌝ }
+    ensures { λ r. ⌜ r ≡ scaled binary64 x n ⌝ }
+{
+    let ix = x & 0x7fffffffffffffff;
+    if ix == 0 || ix == 0x7ff0000000000000 {
+        return x;
+    }
+    if n > 2098 || n < -2098 {
+        if n > 0 {
+            return (x & 0x8000000000000000) | 0x7ff0000000000000;
+        }
+        return x & 0x8000000000000000;
+    }
+    f64::to_bits(scale64(f64::from_bits(x), n))
+}
+
 // The word of x times 2^n, as a plain word. Only a NaN's word gives the NaN; the shift drops the
 // sign.
 pub fn scaled64(x: u64, n: i32) -> u64
@@ -74,7 +103,10 @@ pub fn scaled64(x: u64, n: i32) -> u64
     if (x << 1) > 0xffe0000000000000 {
         return 0x7ff8000000000000;
     }
-    f64::to_bits(scale64(f64::from_bits(x), n))
+    if n > 1023 || n < -1022 {
+        return number64(x, n);
+    }
+    near64(x, n)
 }
 
 // x times 2^n.

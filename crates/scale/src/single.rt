@@ -1,8 +1,8 @@
 // Scaling of f32 words.
 ghost use mathlib.Core.Path.{_≡_};
-ghost use Prim.Native.Nat.{_<_};
+ghost use Prim.Native.Nat.{_≤_, _<_};
 ghost use lib.Ieee as Ieee;
-ghost use Rattle.words.specs.Format.{binary32};
+ghost use Rattle.words.specs.Format.{binary32, infinity, magnitude};
 ghost use Rattle.words.specs.Answers.{answered};
 ghost use Rattle.scale.specs.Scale.{scaled, power};
 ghost use Rattle.scale.specs.Steps.{Normal, stepFloat, stepLeft};
@@ -67,6 +67,34 @@ pub fn scale32(x: f32, n: i32) -> f32
     x * power32(n)
 }
 
+// The word of x times 2^n for a word that is no NaN's and a normal exponent n: one multiplication.
+fn near32(x: u32, n: i32) -> u32
+    requires { ⌜ magnitude binary32 x ≤ infinity binary32 ⌝ }
+    requires { ⌜ Normal Ieee.binary32 n ⌝ }
+    ensures { λ r. ⌜ r ≡ scaled binary32 x n ⌝ }
+{
+    f32::to_bits(f32::from_bits(x) * power32(n))
+}
+
+// The word of x times 2^n for a word that is no NaN's. Zeros and infinities are unchanged; any other
+// number is an infinity 277 places up, and a zero 277 places down.
+fn number32(x: u32, n: i32) -> u32
+    requires { ⌜ magnitude binary32 x ≤ infinity binary32 ⌝ }
+    ensures { λ r. ⌜ r ≡ scaled binary32 x n ⌝ }
+{
+    let ix = x & 0x7fffffff;
+    if ix == 0 || ix == 0x7f800000 {
+        return x;
+    }
+    if n > 277 || n < -277 {
+        if n > 0 {
+            return (x & 0x80000000) | 0x7f800000;
+        }
+        return x & 0x80000000;
+    }
+    f32::to_bits(scale32(f32::from_bits(x), n))
+}
+
 // The word of m times 2^n for a word m below the normal numbers'. Such a word is its own number of
 // units, 2^-149, and a whole float; so no multiplication meets a subnormal number, which would be
 // slow: where the result has fewer than 2^23 units, they are added to 2^23, which rounds them to a
@@ -94,9 +122,9 @@ fn rare32(x: u32, n: i32) -> u32
         return 0x7fc00000;
     }
     if ix < 0x00800000 {
-        return tiny32(ix, n) | (x & 0x80000000);
+        return (x & 0x80000000) | tiny32(ix, n);
     }
-    f32::to_bits(scale32(f32::from_bits(x), n))
+    number32(x, n)
 }
 
 // The word of x times 2^n, as a plain word: one multiplication for a normal x and n. The rest is
@@ -111,7 +139,7 @@ pub fn scaled32(x: u32, n: i32) -> u32
     if n > 127 || n < -126 {
         return rare32(x, n);
     }
-    f32::to_bits(f32::from_bits(x) * power32(n))
+    near32(x, n)
 }
 
 // x times 2^n.

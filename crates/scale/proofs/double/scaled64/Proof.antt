@@ -1,20 +1,16 @@
 -- `scale::double::scaled64` meets its contract: a NaN's word apart, the word of the kit's product with 2 ^ n. Assumes nothing.
-use borrow.Author.Needs.{needs}
-use mathlib.Core.Path.{_≡_, sym, ap, _∙_, subst}
+use mathlib.Core.Path.{_≡_, sym, ap, _∙_}
 use Prim.Native.Nat.{ℕ, _+_, _*_, _/_, _%_, _^_, _≤_, _<_}
-use mathlib.Core.Bool.{not}
-use lib.Dec.{T}
-use lib.IntN.{ℤ}
 use native.Mathlib.Nat.{div-add-mod', mul-add-mod-self-right, mod-eq-of-lt, mod-lt}
 use lib.Pow.{pow-pos}
 use native.Mathlib.Omega.{arith}
-use lib.Ieee.{Float, binary64, mul, ofBits, toBits, isNan}
+use lib.Ieee.{binary64}
 use mir.Syntax.{w32}
 use mir.ValLaws.{toZ-ofZ}
 use Rattle.words.specs.Format as Format
-use Rattle.words.proofs.Floats.{word-number}
-use Rattle.scale.specs.Scale.{power}
-use Rattle.scale.proofs.Scaled.{scaled-is, scaled-nan, scaled-number}
+use Rattle.scale.specs.Scale.{scaled}
+use Rattle.scale.proofs.Machine.{held, near-normal}
+use Rattle.scale.proofs.Scaled.{scaled-nan}
 use Rattle.scale.proofs.double.scaled64.Statement.{statement}
 use Rattle.scale.proofs.double.scaled64.Tie as tie
 
@@ -38,14 +34,16 @@ within x h = omega (arith, doubled x)
 number : (c : tie.Else1) → c .before .args .x % 2 ^ 63 ≤ 0x7ff0_0000_0000_0000
 number c = within (c .before .args .x) (c .if1 .left)
 
+-- n is handed on as the machine holds it
+back : (s : tie.Start) → scaled Format.binary64 (s .args .x) (held w32 (s .args .n)) ≡ scaled Format.binary64 (s .args .x) (s .args .n)
+back s = ap (scaled Format.binary64 (s .args .x)) (toZ-ofZ w32 (s .args .n) (s .fits .n))
+
 pub scaled64-spec : {M : Type 1} → statement M
 scaled64-spec =
     tie.close
     (tie.spec
     (λ c. scaled-nan Format.binary64 (c .before .args .x) (c .before .args .n) (above (c .before .args .x) (c .if1 .taken)))
-    (λ c. word-number binary64 (c .before .args .x) (number c))
-    (λ c κs. search needs)
-    (λ c. subst (λ (v : Float). T (not (isNan v))) (sym (c .scale64 .ensures)) (scaled-number binary64 (c .before .before .args .x) _ (number (c .before))))
-    (λ c. let s = c .before .before in
-    ap (toBits binary64) (c .scale64 .ensures ∙ ap (λ (n : ℤ). mul binary64 (ofBits binary64 (s .args .x)) (power n)) (toZ-ofZ w32 (s .args .n) (s .fits .n)))
-    ∙ scaled-is binary64 (s .args .x) (s .args .n) (s .fits .x .fits)))
+    (λ c κs. number (c .before))
+    (λ c. c .number64 .ensures ∙ back (c .before .before .before))
+    (λ c κs. let s = c .before .before .before in (number (c .before .before), near-normal binary64 w32 (s .args .n) (s .fits .n) (c .before .if2 .left) (c .if3 .left)))
+    (λ c. c .near64 .ensures ∙ back (c .before .before .before .before)))

@@ -6,15 +6,14 @@ use native.Mathlib.Nat.{le-of-lt}
 use mathlib.Core.Bool.{Bool, not}
 use lib.Dec.{T, eqb, T-not}
 use lib.Bits.{bitAnd}
-use lib.Ieee.{Float, binary32, mul, ofBits, toBits, isNan}
+use lib.Ieee.{binary32}
 use lib.Ieee.Fits.{eq→eqb}
 use mir.Syntax.{w32}
 use mir.ValLaws.{toZ-ofZ}
 use Rattle.words.specs.Format as Format
-use Rattle.words.proofs.Floats.{word-number}
-use Rattle.scale.specs.Scale.{scaled, power}
+use Rattle.scale.specs.Scale.{scaled}
 use Rattle.scale.proofs.Machine.{held, near-normal}
-use Rattle.scale.proofs.Scaled.{scaled-is, scaled-number, finite-field}
+use Rattle.scale.proofs.Scaled.{finite-field}
 use Rattle.scale.proofs.single.scaled32.Statement.{statement}
 use Rattle.scale.proofs.single.scaled32.Tie as tie
 
@@ -26,9 +25,6 @@ back s = ap (scaled Format.binary32 (s .args .x)) (toZ-ofZ w32 (s .args .n) (s .
 number : (c : tie.Else2) → c .before .before .args .x % 2 ^ 31 ≤ 0x7f80_0000
 number c = le-of-lt (finite-field 8 23 (c .before .before .args .x) (λ (e : bitAnd (c .before .before .args .x / 2 ^ 23) 0xff ≡ 0xff). T-not (eqb (bitAnd (c .before .before .args .x / 2 ^ 23) 0xff) 0xff) (subst (λ (b : Bool). T (not b)) (sym (c .if2 .left)) tt) (eq→eqb e)))
 
-product : (s : tie.Start) (p : Float) → p ≡ power (held w32 (s .args .n)) → mul binary32 (ofBits binary32 (s .args .x)) p ≡ mul binary32 (ofBits binary32 (s .args .x)) (power (held w32 (s .args .n)))
-product s p e = ap (mul binary32 (ofBits binary32 (s .args .x))) e
-
 pub scaled32-spec : {M : Type 1} → statement M
 scaled32-spec =
     tie.close
@@ -37,9 +33,5 @@ scaled32-spec =
     (λ c. c .rare32 .ensures ∙ back (c .before .before))
     (λ c κs. search needs)
     (λ c. c .rare322 .ensures ∙ back (c .before .before .before .before))
-    (λ c. word-number binary32 (c .before .before .before .before .args .x) (number (c .before .before)))
-    (λ c κs. let s = c .before .before .before .before in near-normal binary32 w32 (s .args .n) (s .fits .n) (c .before .if3 .left) (c .if4 .left))
-    (λ c. let s = c .before .before .before .before .before in
-    subst (λ (v : Float). T (not (isNan v))) (sym (product s (c .power32 .result) (c .power32 .ensures))) (scaled-number binary32 (s .args .x) (held w32 (s .args .n)) (number (c .before .before .before))))
-    (λ c. let s = c .before .before .before .before .before in
-    ap (toBits binary32) (product s (c .power32 .result) (c .power32 .ensures)) ∙ scaled-is binary32 (s .args .x) (held w32 (s .args .n)) (s .fits .x .fits) ∙ back s))
+    (λ c κs. let s = c .before .before .before .before in (number (c .before .before), near-normal binary32 w32 (s .args .n) (s .fits .n) (c .before .if3 .left) (c .if4 .left)))
+    (λ c. c .near32 .ensures ∙ back (c .before .before .before .before .before)))
