@@ -1,3 +1,4 @@
 pub mod Elements
 pub mod Progress
+pub mod Stretches
 pub mod Answers

@@ -94,3 +94,7 @@ step2 {A} {B} {f} {xs} {ys} {before} {now} {number} {i} p a b h e =
 pub done2 : {A B : Type 0} {f : A → B → ℕ} {xs : List A} {ys : List B} {before now : List ℕ} {number i : ℕ} {answer : Batch} → Pairs f xs ys before number i now
     → length before ≤ i → answer ≡ answered number (length before) → Zipped f xs ys before now answer
 done2 p h a = succeeded (p .asked) (p .taken) a (whole (p .progress) h)
+
+-- from place i₀ on to place i, whatever was there before the first place
+abbrev pub Onward : {A B : Type 0} → (A → B → ℕ) → List A → List B → ℕ → ℕ → List ℕ → ℕ → List ℕ → Type 0
+Onward f xs ys number i₀ now₀ i now = (before : List ℕ) → Pairs f xs ys before number i₀ now₀ → Pairs f xs ys before number i now
