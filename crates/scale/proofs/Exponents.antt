@@ -1,12 +1,12 @@
 -- The exponent of a word below the normal numbers': held where no unit is lost below, and where every size but zero is an infinity above. Over the kit's formats. Assumes nothing.
 use mathlib.Core.Path.{_≡_, refl, sym, ap, _∙_, subst}
-use Prim.Native.Nat.{ℕ, suc, _+_, _-_, _*_, _^_, _≤_, _<_}
+use Prim.Native.Nat.{ℕ, zero, suc, _+_, _-_, _*_, _^_, _≤_, _<_}
 use native.Mathlib.Nat.{le-refl, lt-of-le-of-lt}
 use native.Mathlib.Omega.{arith}
 use mathlib.Core.Bool.{Bool, true, false, not, cond}
 use lib.Dec.{T, leb, ltb, ltb→lt, nltb→le, le→leb}
 use lib.Pow.{pow-add}
-use lib.IntN.{ℤ, pos, negsuc, _-ℤ_, natAbs}
+use lib.IntN.{ℤ, pos, negsuc, _+ℤ_, _-ℤ_, natAbs, +ℤ-idr, +ℤ-negℤ-cancel}
 use lib.Signed.{_≤ℤ_, ≤ℤ-refl, leZ-yes}
 use mir.Syntax.{Width}
 use mir.Val.{SFits, hbits}
@@ -56,6 +56,14 @@ lowered (negsuc a) b = both (2 ^ suc b) (2 ^ suc a) (2 ^ suc (suc (a + b))) (ap 
 
     both : (x y z : ℕ) → z ≡ x * y → 1 * (x * y) ≡ 1 * z
     both x y z e = omega arith
+
+-- and 2 ^ (n + y) is 2 ^ n times 2 ^ y
+pub raised : (n : ℤ) (y : ℕ) → up n * (2 ^ y * down (n +ℤ pos y)) ≡ up (n +ℤ pos y) * down n
+raised n zero = subst (λ (k : ℤ). up n * (2 ^ 0 * down k) ≡ up k * down n) (sym (+ℤ-idr n)) (one (up n) (down n))
+  where
+    one : (a b : ℕ) → a * (1 * b) ≡ a * b
+    one a b = omega arith
+raised n (suc b) = subst (λ (k : ℤ). up k * (2 ^ suc b * down (n +ℤ pos (suc b))) ≡ up (n +ℤ pos (suc b)) * down k) (+ℤ-negℤ-cancel n (pos (suc b))) (lowered (n +ℤ pos (suc b)) b)
 
 pub low-some : (f : Format) → low f ≡ suc (low f - 1)
 low-some binary32 = refl

@@ -57,11 +57,14 @@ module _ (f : Format) (w ix : ℕ) (W : w < 2 * top (ours f)) (e : ix ≡ w % to
       go zero h = absurd (h refl)
       go (suc m) h = lt-of-le-of-lt zero-le (units-step (ours f) (lt-trans (lit≤ tt) (two f)) m)
 
-  value : HasValue (ofBits f w) (leb t w) (units (ours f) (w % t)) (2 ^ low f)
-  value = word-val f w (below (w % t) (infinity (ours f)) number (λ (z : w % t ≡ infinity (ours f)). T-not (eqb ix (infinity (ours f))) (subst (λ (b : Bool). T (not b)) (sym finite) tt) (eq→eqb (e ∙ z))))
+  pub below-infinity : w % t < infinity (ours f)
+  below-infinity = below (w % t) (infinity (ours f)) number (λ (z : w % t ≡ infinity (ours f)). T-not (eqb ix (infinity (ours f))) (subst (λ (b : Bool). T (not b)) (sym finite) tt) (eq→eqb (e ∙ z)))
     where
       below : (m i : ℕ) → m ≤ i → (m ≡ i → ⊥) → m < i
       below m i h n = omega arith
+
+  value : HasValue (ofBits f w) (leb t w) (units (ours f) (w % t)) (2 ^ low f)
+  value = word-val f w below-infinity
 
   pub limit-up : (n : ℤ) → Beyond f n → ltZ (pos 0) n ≡ true → w / t * t + infinity (ours f) ≡ scaled (ours f) w n
   limit-up (pos a) (inl l) u =

@@ -2,8 +2,8 @@
 use mathlib.Core.Path.{_≡_, refl, sym, ap, _∙_, subst}
 use Prim.Native.Nat.{ℕ, suc, _+_, _-_, _*_, _^_, _≤_, _<_}
 use native.Mathlib.Omega.{arith}
-use mathlib.Core.Bool.{true, false, not}
-use lib.Dec.{T}
+use mathlib.Core.Bool.{Bool, true, false, not, cond}
+use lib.Dec.{T, ltb, nltb→le}
 use lib.IntN.{ℤ, pos, negsuc, _+ℤ_, _-ℤ_}
 use lib.Signed.{ltZ, _≤ℤ_}
 use lib.Ieee.{Float, Format, prec, emax, low, hid, ones, add, mul, lt, ofInt, isNan, toBits, fits}
@@ -82,6 +82,40 @@ power-field f w n O N h = let g = held-normal f w n N h in field-of f w (held w 
 pub near-normal : (f : Format) (w : Width) (n : ℤ) → SFits w n → pastUp f (held w n) ≡ false → pastDown f (held w n) ≡ false → Normal f (held w n)
 near-normal f w n N u d = inside-normal f (held w n) (u, d)
 
+-- ---- the sum of an n that is not above a limit and a y, as the machine holds it
+module _ (w : Width) (n : ℤ) (y most : ℕ) (N : SFits w n) (u : ltZ (pos most) (held w n) ≡ false) (Y : most + y < 2 ^ hbits w) where
+  plain-sum : held w n +ℤ held w (pos y) ≡ n +ℤ pos y
+  plain-sum = λ i. toZ-ofZ w n N i +ℤ toZ-ofZ w (pos y) (record { sfits = less most y (2 ^ hbits w) Y }) i
+    where
+      less : (m y W : ℕ) → m + y < W → y < W
+      less m y W h = omega arith
+
+  small-sum : SFits w (n +ℤ pos y)
+  small-sum = go n N (ap (ltZ (pos most)) (sym (toZ-ofZ w n N)) ∙ u)
+    where
+      up-to : (m a y W : ℕ) → m + y < W → a ≤ m → a + y < W
+      up-to m a y W h l = omega arith
+
+      down-to : (a y W : ℕ) → a < W → suc a - suc y < W
+      down-to a y W h = omega arith
+
+      rest : (m a y W : ℕ) → m + y < W → y - suc a < W
+      rest m a y W h = omega arith
+
+      mixed : (a : ℕ) → a < 2 ^ hbits w → (t : Bool) → SFits w (cond t (negsuc (suc a - suc y)) (pos (y - suc a)))
+      mixed a h true = record { sfits = down-to a y (2 ^ hbits w) h }
+      mixed a h false = record { sfits = rest most a y (2 ^ hbits w) Y }
+
+      go : (n : ℤ) → SFits w n → ltZ (pos most) n ≡ false → SFits w (n +ℤ pos y)
+      go (pos a) h l = record { sfits = up-to most a y (2 ^ hbits w) Y (nltb→le most a (subst (λ (b : Bool). T (not b)) (sym l) tt)) }
+      go (negsuc a) h l = mixed a (h .sfits) (ltb y (suc a))
+
+  pub sum-fits : SFits w (held w n +ℤ held w (pos y))
+  sum-fits = subst (SFits w) (sym plain-sum) small-sum
+
+  pub sum-held : held w (held w n +ℤ held w (pos y)) ≡ n +ℤ pos y
+  sum-held = toZ-ofZ w (held w n +ℤ held w (pos y)) sum-fits ∙ plain-sum
+
 -- ---- two steps and the last factor, each handed on as the machine holds it: r is the clamped exponent
 pub scale-held : (f : Format) (w : Width) (x y₁ y₂ p : Float) (n n₁ n₂ r : ℤ) → T (fits f x) → SFits w n → SFits w r
     → (y₁ ≡ stepFloat f x (held w n)) × (n₁ ≡ stepLeft f (held w n)) → (y₂ ≡ stepFloat f y₁ (held w n₁)) × (n₂ ≡ stepLeft f (held w n₁))
@@ -96,7 +130,7 @@ scale-held f w x y₁ y₂ p n n₁ n₂ r X N R a b l m =
     let y : y₂ ≡ stepFloat f (stepFloat f x n) (stepLeft f n) = b .0 ∙ (λ i. stepFloat f ((a .0 ∙ ap (stepFloat f x) e) i) (c' i)) in
     (λ i. mul f (y i) ((m ∙ ap power (toZ-ofZ w r R ∙ l ∙ ap (clamped f) d')) i)) ∙ scale-steps f x n X
 
--- ---- a word m below the normal numbers': r is the clamped exponent
+-- ---- a word m of at most prec digits: r is the clamped exponent
 -- t is the sum of the product and 2 ^ (prec - 1), and it is their units' word beside that one's; v is the product itself
 pub record SumWord (f : Format) (m : ℕ) (n : ℤ) (t : Float) : Type 0 where
   pub number : T (not (isNan t))
@@ -107,7 +141,7 @@ pub record WholeWord (f : Format) (m : ℕ) (n : ℤ) (v : Float) : Type 0 where
   pub number : T (not (isNan v))
   pub word : toBits f v ≡ scaled (ours f) m n
 
-module _ (f : Format) (w : Width) (m : ℕ) (M : m < hid f) (n r : ℤ) (N : SFits w n) (R : SFits w r) (e : r ≡ tinyExponent f (held w n)) where
+module _ (f : Format) (w : Width) (m : ℕ) (M : m < 2 ^ prec f) (n r : ℤ) (N : SFits w n) (R : SFits w r) (e : r ≡ tinyExponent f (held w n)) where
   exponent : held w r ≡ tinyExponent f n
   exponent = toZ-ofZ w r R ∙ e ∙ ap (tinyExponent f) (toZ-ofZ w n N)
 

@@ -2,12 +2,12 @@
 use mathlib.Core.Path.{_≡_, subst, refl, sym, ap, _∙_}
 use mathlib.Core.Logic.{_⊎_, inl, inr}
 use Prim.Native.Nat.{ℕ, _+_, _-_, _*_, _/_, _%_, _^_, _≤_, _<_}
-use native.Mathlib.Nat.{mul-assoc, mul-pos, mod-eq-of-lt, lt-trans, lt-of-le-of-lt, zero-add, div-add-mod', mod-lt, div-lt-iff-lt-mul}
+use native.Mathlib.Nat.{one-mul, mul-assoc, mul-pos, mod-eq-of-lt, lt-trans, lt-of-le-of-lt, zero-add, div-add-mod', mod-lt, div-lt-iff-lt-mul}
 use native.Mathlib.Omega.{arith}
 use mathlib.Core.Bool.{Bool, true, false, not, cond}
 use lib.Dec.{T, leb, ltb, eqb, ltb→lt, nltb→le, eqb→eq, T-not}
 use lib.Arith.{lt→nleb}
-use lib.Bits.{bitAnd, bitOr, and-mask, and-high, or-shifted}
+use lib.Bits.{bitAnd, bitOr, and-mask, and-high, or-shifted, or-shifted-r}
 use lib.Pow.{pow-pos, shr-mod, field}
 use lib.IntN.{ℤ}
 use lib.Ieee as Ieee
@@ -96,18 +96,23 @@ scaled-zero f w n P W e =
     ∙ ap (signed f (leb (top f) w)) (ap (λ (z : ℕ). rounded f (units f z * up n) (down n)) e ∙ rounded-nothing f (up n) (down n) P (down-pos n) ∙ sym e)
     ∙ sign-and-size (top f) w W
 
+-- a finite size's word
+pub scaled-size : (f : Format) (m : ℕ) (n : ℤ) → m < infinity f → scaled f m n ≡ rounded f (units f m * up n) (down n)
+scaled-size f m n h =
+    let t = top f in
+    let again : m % t ≡ m = mod-eq-of-lt (lt-trans h (infinity-below f)) in
+    scaled-finite f m n (subst (λ (z : ℕ). z < infinity f) (sym again) h)
+    ∙ ap (λ (s : Bool). cond s t 0 + rounded f (units f (m % t) * up n) (down n)) (is-false (leb t m) (lt→nleb t m (lt-trans h (infinity-below f))))
+    ∙ zero-add (rounded f (units f (m % t) * up n) (down n))
+    ∙ ap (λ (z : ℕ). rounded f (units f z * up n) (down n)) again
+
 -- a finite word: its sign, and its size scaled
 pub scaled-signed : (f : Format) (w : ℕ) (n : ℤ) → w < 2 * top f → w % top f < infinity f → (scaled f (w % top f) n < top f) × (scaled f w n ≡ w / top f * top f + scaled f (w % top f) n)
 scaled-signed f w n W h =
     let m = w % top f in
     let t = top f in
     let r = rounded f (units f m * up n) (down n) in
-    let again : m % t ≡ m = mod-eq-of-lt (lt-trans h (infinity-below f)) in
-    let size : scaled f m n ≡ r =
-    scaled-finite f m n (subst (λ (z : ℕ). z < infinity f) (sym again) h)
-    ∙ ap (λ (s : Bool). cond s t 0 + rounded f (units f (m % t) * up n) (down n)) (is-false (leb t m) (lt→nleb t m (lt-trans h (infinity-below f))))
-    ∙ zero-add (rounded f (units f (m % t) * up n) (down n))
-    ∙ ap (λ (z : ℕ). rounded f (units f z * up n) (down n)) again in
+    let size : scaled f m n ≡ r = scaled-size f m n h in
     (subst (λ (z : ℕ). z < t) (sym size) (lt-of-le-of-lt (rounded-le even f _ _ _) (infinity-below f)), scaled-finite f w n h ∙ ap (λ (z : ℕ). z + r) (sign (cond (leb t w) t 0) (w / t * t) m w (sign-and-size t w W) (div-add-mod' w t)) ∙ ap (λ (z : ℕ). w / t * t + z) (sym size))
   where
     sign : (a b m w : ℕ) → a + m ≡ w → b + m ≡ w → a ≡ b
@@ -124,6 +129,10 @@ sign-alone k x h = and-high x 1 k ∙ ap (λ (z : ℕ). z * 2 ^ k) (shr-mod 1 k 
 
 pub sign-before : (k x s : ℕ) → x < 2 ^ (1 + k) → s < 2 ^ k → bitOr (bitAnd x (2 ^ (1 + k) - 2 ^ k)) s ≡ x / 2 ^ k * 2 ^ k + s
 sign-before k x s h l = ap (λ (z : ℕ). bitOr z s) (sign-alone k x h) ∙ or-shifted (x / 2 ^ k) k s l
+
+-- a size's last k digits with the leading one before them
+pub digits-with-leading : (k z : ℕ) → bitOr (bitAnd z (2 ^ k - 1)) (1 * 2 ^ k) ≡ 2 ^ k + z % 2 ^ k
+digits-with-leading k z = ap (λ (b : ℕ). bitOr b (1 * 2 ^ k)) (and-mask z k) ∙ or-shifted-r 1 k (z % 2 ^ k) (mod-lt z (pow-pos k)) ∙ ap (λ (b : ℕ). b + z % 2 ^ k) (one-mul (2 ^ k))
 
 -- a field of j digits before k others that is not all ones
 pub finite-field : (j k x : ℕ) → (bitAnd (x / 2 ^ k) (2 ^ j - 1) ≡ 2 ^ j - 1 → ⊥) → x % 2 ^ (j + k) < (2 ^ j - 1) * 2 ^ k

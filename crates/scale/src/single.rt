@@ -76,31 +76,12 @@ fn near32(x: u32, n: i32) -> u32
     f32::to_bits(f32::from_bits(x) * power32(n))
 }
 
-// The word of x times 2^n for a word that is no NaN's. Zeros and infinities are unchanged; any other
-// number is an infinity 277 places up, and a zero 277 places down.
-fn number32(x: u32, n: i32) -> u32
-    requires { ⌜ magnitude binary32 x ≤ infinity binary32 ⌝ }
-    ensures { λ r. ⌜ r ≡ scaled binary32 x n ⌝ }
-{
-    let ix = x & 0x7fffffff;
-    if ix == 0 || ix == 0x7f800000 {
-        return x;
-    }
-    if n > 277 || n < -277 {
-        if n > 0 {
-            return (x & 0x80000000) | 0x7f800000;
-        }
-        return x & 0x80000000;
-    }
-    f32::to_bits(scale32(f32::from_bits(x), n))
-}
-
-// The word of m times 2^n for a word m below the normal numbers'. Such a word is its own number of
-// units, 2^-149, and a whole float; so no multiplication meets a subnormal number, which would be
-// slow: where the result has fewer than 2^23 units, they are added to 2^23, which rounds them to a
-// whole number in the sum's last digits.
+// The word of m times 2^n for a word m of at most 24 digits. Such a word is its own number of units,
+// 2^-149, and a whole float; so no multiplication meets a subnormal number, which would be slow: where
+// the result has fewer than 2^23 units, they are added to 2^23, which rounds them to a whole number in
+// the sum's last digits.
 fn tiny32(m: u32, n: i32) -> u32
-    requires { ⌜ m < 0x00800000 ⌝ }
+    requires { ⌜ m < 0x01000000 ⌝ }
     ensures { λ r. ⌜ r ≡ scaled binary32 m n ⌝ }
 {
     let units = m as f32;
@@ -113,7 +94,8 @@ fn tiny32(m: u32, n: i32) -> u32
     f32::to_bits(scale32(units, k - 149))
 }
 
-// The word of x times 2^n for every x and n. Only a NaN's word gives the NaN.
+// The word of x times 2^n for every x and n. Only a NaN's word gives the NaN; zeros and infinities are
+// unchanged; any other number is an infinity 277 places up, and a zero 277 places down.
 fn rare32(x: u32, n: i32) -> u32
     ensures { λ r. ⌜ r ≡ scaled binary32 x n ⌝ }
 {
@@ -121,14 +103,26 @@ fn rare32(x: u32, n: i32) -> u32
     if ix > 0x7f800000 {
         return 0x7fc00000;
     }
-    if ix < 0x00800000 {
-        return (x & 0x80000000) | tiny32(ix, n);
+    if ix == 0 || ix == 0x7f800000 {
+        return x;
     }
-    number32(x, n)
+    let sign = x & 0x80000000;
+    if n > 277 || n < -277 {
+        if n > 0 {
+            return sign | 0x7f800000;
+        }
+        return sign;
+    }
+    if ix < 0x00800000 {
+        return sign | tiny32(ix, n);
+    }
+    let m = (ix & 0x007fffff) | 0x00800000;
+    sign | tiny32(m, n + (((ix >> 23) - 1) as i32))
 }
 
-// The word of x times 2^n, as a plain word: one multiplication for a normal x and n. The rest is
-// called from two places, since a compiler would take what is called once into every loop over this.
+// The word of x times 2^n, as a plain word: one multiplication for a normal x, n and result. The rest is
+// called from more than one place, since a compiler would take what is called once into every loop over
+// this.
 pub fn scaled32(x: u32, n: i32) -> u32
     ensures { λ r. ⌜ r ≡ scaled binary32 x n ⌝ }
 {
@@ -137,6 +131,9 @@ pub fn scaled32(x: u32, n: i32) -> u32
         return rare32(x, n);
     }
     if n > 127 || n < -126 {
+        return rare32(x, n);
+    }
+    if n + (field as i32) < 1 {
         return rare32(x, n);
     }
     near32(x, n)
