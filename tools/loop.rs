@@ -1,5 +1,6 @@
 // loop NAME make: 100,000,003 bytes of a program's input from a xorshift generator: roots of any
-// positive word, scalings and powers of numbers from 0.5 to 2, with n from -20 to 20 and y within 128.
+// positive word, scalings of any word with n from -20 to 20, powers of numbers from 0.5 to 2 with y
+// within 128. loop bytes make: as many bytes of any value.
 // loop NAME FILE: the least time, in microseconds, of five loops over a function of the C face, one
 // call for each whole record of the file, results kept in memory. tools/throughput holds the
 // programs to it.
@@ -45,8 +46,9 @@ fn make(name: &str) -> Vec<u8> {
         match name {
             "sqrtf" => input.extend((x as u32 >> 1).to_le_bytes()),
             "sqrtd" => input.extend((x >> 1).to_le_bytes()),
-            "scalbnf" => input.extend([(near as f32).to_le_bytes(), n.to_le_bytes()].concat()),
-            "scalbnd" => input.extend([&near.to_le_bytes()[..], &n.to_le_bytes()[..]].concat()),
+            "scalbnf" => input.extend([(x as u32).to_le_bytes(), n.to_le_bytes()].concat()),
+            "scalbnd" => input.extend([&x.to_le_bytes()[..], &n.to_le_bytes()[..]].concat()),
+            "bytes" => input.extend(x.to_le_bytes()),
             "powf" => input.extend([(near as f32).to_le_bytes(), (power as f32).to_le_bytes()].concat()),
             _ => input.extend([near.to_le_bytes(), power.to_le_bytes()].concat()),
         }

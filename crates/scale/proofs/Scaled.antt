@@ -2,13 +2,13 @@
 use mathlib.Core.Path.{_≡_, subst, refl, sym, ap, _∙_}
 use mathlib.Core.Logic.{_⊎_, inl, inr}
 use Prim.Native.Nat.{ℕ, _+_, _-_, _*_, _/_, _%_, _^_, _≤_, _<_}
-use native.Mathlib.Nat.{one-mul, mul-assoc, mul-pos, mod-eq-of-lt, lt-trans, lt-of-le-of-lt, zero-add, div-add-mod', mod-lt, div-lt-iff-lt-mul}
+use native.Mathlib.Nat.{one-mul, mul-assoc, mul-pos, mod-eq-of-lt, lt-trans, lt-of-le-of-lt, zero-add, div-add-mod', mod-lt}
 use native.Mathlib.Omega.{arith}
 use mathlib.Core.Bool.{Bool, true, false, not, cond}
 use lib.Dec.{T, leb, ltb, eqb, ltb→lt, nltb→le, eqb→eq, T-not}
 use lib.Arith.{lt→nleb}
 use lib.Bits.{bitAnd, bitOr, and-mask, and-high, or-shifted, or-shifted-r}
-use lib.Pow.{pow-pos, shr-mod, field}
+use lib.Pow.{pow-pos, shr-mod}
 use lib.IntN.{ℤ}
 use lib.Ieee as Ieee
 use borrow.Author.Tests.{lt-ltb, le-ltb, eq-eqb, ne-eqb}
@@ -133,13 +133,3 @@ sign-before k x s h l = ap (λ (z : ℕ). bitOr z s) (sign-alone k x h) ∙ or-s
 -- a size's last k digits with the leading one before them
 pub digits-with-leading : (k z : ℕ) → bitOr (bitAnd z (2 ^ k - 1)) (1 * 2 ^ k) ≡ 2 ^ k + z % 2 ^ k
 digits-with-leading k z = ap (λ (b : ℕ). bitOr b (1 * 2 ^ k)) (and-mask z k) ∙ or-shifted-r 1 k (z % 2 ^ k) (mod-lt z (pow-pos k)) ∙ ap (λ (b : ℕ). b + z % 2 ^ k) (one-mul (2 ^ k))
-
--- a field of j digits before k others that is not all ones
-pub finite-field : (j k x : ℕ) → (bitAnd (x / 2 ^ k) (2 ^ j - 1) ≡ 2 ^ j - 1 → ⊥) → x % 2 ^ (j + k) < (2 ^ j - 1) * 2 ^ k
-finite-field j k x h =
-    let q = x / 2 ^ k % 2 ^ j in
-    div-lt-iff-lt-mul (pow-pos k) .0
-    (subst (λ (z : ℕ). z < 2 ^ j - 1) (sym (field x j k)) (less q (2 ^ j) (mod-lt (x / 2 ^ k) (pow-pos j)) (λ (e : q ≡ 2 ^ j - 1). h (and-mask (x / 2 ^ k) j ∙ e))))
-  where
-    less : (q p : ℕ) → q < p → (q ≡ p - 1 → ⊥) → q < p - 1
-    less q p l n = omega arith

@@ -126,14 +126,14 @@ fn rare32(x: u32, n: i32) -> u32
 pub fn scaled32(x: u32, n: i32) -> u32
     ensures { λ r. ⌜ r ≡ scaled binary32 x n ⌝ }
 {
-    let field = (x >> 23) & 0xff;
-    if field == 0 || field == 0xff {
+    let ix = x & 0x7fffffff;
+    if ix < 0x00800000 || ix >= 0x7f800000 {
         return rare32(x, n);
     }
     if n > 127 || n < -126 {
         return rare32(x, n);
     }
-    if n + (field as i32) < 1 {
+    if n + ((ix >> 23) as i32) < 1 {
         return rare32(x, n);
     }
     near32(x, n)
