@@ -71,6 +71,16 @@ pub fn scaling(f: Format, d: &mut Draw) -> (u64, u64) {
     (x, n as i32 as u32 as u64)
 }
 
+/// An operand of scaling that is no NaN's and a normal n, but one in 150 times any: so that a batch has
+/// stretches without a far n or a NaN, and stretches with one.
+pub fn plain_scaling(f: Format, d: &mut Draw) -> (u64, u64) {
+    let (x, n) = (operand(f, d), d.within(1 - i64::from(f.emax), f.emax.into()));
+    if d.below(150) == 0 || x & !f.sign() > f.infinity() {
+        return scaling(f, d);
+    }
+    (x, n as i32 as u32 as u64)
+}
+
 /// The operands of a power: x at the branches of the original, and y such that the power is finite, or at
 /// its limits, or at a branch of its own.
 pub fn power(f: Format, d: &mut Draw) -> (u64, u64) {

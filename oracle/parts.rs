@@ -95,7 +95,10 @@ fn batches(all: &mut Vec<Part>, scale: Scale, w: &'static Width) {
     let odd = [0, 1, 2, 5, BATCH_MOST - 1, BATCH_MOST, BATCH_MOST + 1, 2 * BATCH_MOST];
     let equal = (0..70).chain(BATCH_MOST - 40..BATCH_MOST + 40).chain([2 * BATCH_MOST, 65_535, 65_536, 65_537]);
     let equal: Vec<[usize; 3]> = equal.map(|n| [n; 3]).collect();
-    let draw: [fn(Format, &mut Draw) -> (u64, u64); 3] = [|f, d| (draws::root(f, d), 0), draws::scaling, draws::power];
+    type Pairs = fn(Format, &mut Draw) -> (u64, u64);
+    let root: Pairs = |f, d| (draws::root(f, d), 0);
+    // Each length with the one and with the other.
+    let draw: [[Pairs; 2]; 3] = [[root; 2], [draws::scaling, draws::plain_scaling], [draws::power; 2]];
     for (batch, draw) in w.batches.iter().zip(draw) {
         let mut lens = equal.clone();
         for a in odd {
@@ -104,14 +107,15 @@ fn batches(all: &mut Vec<Part>, scale: Scale, w: &'static Width) {
                 lens.extend((batch.operands == 1).then_some([a, 0, b]));
             }
         }
-        let pieces = lens.len() as u64 * if scale.full { 4 } else { 1 };
+        let pieces = lens.len() as u64 * if scale.full { 8 } else { 2 };
         all.push(Part {
             name: batch.name,
             label: "each length".into(),
             pieces,
             run: Box::new(move |piece, t| {
                 let mut d = Draw::new(scale.seed, batch.name, piece);
-                t.batch(batch, lens[piece as usize % lens.len()], &mut d, draw)
+                let (turn, place) = (piece as usize / lens.len(), piece as usize % lens.len());
+                t.batch(batch, lens[place], &mut d, draw[turn % 2])
             }),
         });
     }
