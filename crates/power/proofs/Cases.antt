@@ -1,13 +1,9 @@
 -- The definitions that pick one of their arguments by tests: what is done to the answer may be done to the arguments. Assumes nothing.
-use Prim.Native.Nat.{ℕ, _+_, _-_, _*_, _%_, _<_, _≤_}
+use Prim.Native.Nat.{ℕ, _+_}
 use mathlib.Core.Path.{_≡_, refl, ap, _∙_}
-use mathlib.Core.Bool.{Bool, true, false, not, cond, _&&_, _||_}
-use mathlib.Core.Logic.{_⊎_, inl, inr}
-use native.Mathlib.Nat.{mod-eq-of-lt, mod-eq-sub-mod}
-use native.Mathlib.Omega.{arith}
-use lib.Dec.{ltb, eqb}
-use lib.Ieee.{Float, Format, add, mul, toBits, top}
-use borrow.Author.Tests.{le-ltb, ne-eqb, ltb-true, ltb-false}
+use mathlib.Core.Bool.{Bool, true, false, not, cond, _&&_}
+use lib.Dec.{eqb}
+use lib.Ieee.{Float, Format, mul, top}
 use Rattle.power.specs.declared.answer.Fate.{Fate}
 use Rattle.power.specs.declared.answer.Fate.the-variants.{Over, Under, Within}
 use Rattle.power.specs.declared.answer.Sorted.{Sorted}
@@ -77,39 +73,3 @@ ended w p sn Within = mul (w .format) sn (exp2Of w p)
 pub finish-ended : (w : Width) (p : Two) (sn : Float) (f : Fate) → f ≡ fateOf w Over Under Within p → ended w p sn f ≡ finishOf w p sn
 unfolding finishOf
 finish-ended w p sn f e = ap (ended w p sn) e ∙ fate-map (ended w p sn) w Over Under Within p
-
--- ---- a z within the limits, and well within
-
-pub fate-inside : {A : Type 0} (w : Width) (a b c : A) (p : Two) → (j : ℕ) → j ≡ toBits (w .format) (add (w .format) (p .lo) (p .hi)) → j < 2 * top (w .format) → j % top (w .format) < w .large → w .large ≤ w .small → c ≡ fateOf w a b c p
-unfolding fateOf
-fate-inside w a b c p j e f h l = go (ltb j (top (w .format))) refl
-  where
-    over : (t n : ℕ) → t ≤ n → n < 2 * t → n ≡ t + n % t
-    over t n g f = let s = mod-eq-sub-mod g in let r : (n - t) % t ≡ n - t = mod-eq-of-lt (omega arith) in omega arith
-
-    go : (t : Bool) → ltb j (top (w .format)) ≡ t → c ≡ fateOf w a b c p
-    go true g =
-        let m = mod-eq-of-lt (ltb-true j (top (w .format)) g) in
-        rw (← e, g, le-ltb (w .large) j (omega arith), ne-eqb j (w .large) (λ q. omega arith)) refl
-    go false g =
-        let m = over (top (w .format)) j (ltb-false j (top (w .format)) g) f in
-        rw (← e, g, le-ltb (top (w .format) + w .small) j (omega arith), ne-eqb j (top (w .format) + w .small) (λ q. omega arith)) refl
-
-abbrev pub Inside : Width → ℕ → Type 0
-Inside w j = (j ≤ w .large) ⊎ ((top (w .format) ≤ j) × (j ≤ top (w .format) + w .small))
-
-within-at : {A : Type 0} (w : Width) (x y z : A) (n1 : x ≡ z → ⊥) (n2 : y ≡ z → ⊥) (j : ℕ) (t u v a b : Bool) → ltb j (top (w .format)) ≡ t → ltb (w .large) j ≡ u → ltb (top (w .format) + w .small) j ≡ v → cond t (cond (u || a) x z) (cond (v || b) y z) ≡ z → Inside w j
-within-at w x y z n1 n2 j true true v a b p q r e = absurd (n1 e)
-within-at w x y z n1 n2 j true false v a b p q r e = inl (ltb-false (w .large) j q)
-within-at w x y z n1 n2 j false u true a b p q r e = absurd (n2 e)
-within-at w x y z n1 n2 j false u false a b p q r e = inr (ltb-false j (top (w .format)) p, ltb-false (top (w .format) + w .small) j r)
-
-over-within : Over ≡ Within → ⊥
-over-within e = let z : _≡_ {A = ℕ} 0 1 = cc in omega arith
-
-under-within : Under ≡ Within → ⊥
-under-within e = let z : _≡_ {A = ℕ} 0 1 = cc in omega arith
-
-pub within : (w : Width) (p : Two) → fateOf w Over Under Within p ≡ Within → Inside w (toBits (w .format) (add (w .format) (p .lo) (p .hi)))
-unfolding fateOf
-within w p e = within-at w Over Under Within over-within under-within (toBits (w .format) (add (w .format) (p .lo) (p .hi))) _ _ _ _ _ refl refl refl e
