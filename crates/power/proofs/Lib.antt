@@ -2,6 +2,7 @@ pub mod Numbers
 pub mod Words
 pub mod Cases
 pub mod Limits
+pub mod NearestWhole
 pub mod Nan
 pub mod Fits
 pub mod Exponent
