@@ -1,6 +1,6 @@
 -- The definitions that pick one of their arguments by tests: what is done to the answer may be done to the arguments. Assumes nothing.
 use Prim.Native.Nat.{ℕ, _+_}
-use mathlib.Core.Path.{_≡_, refl, ap, _∙_}
+use mathlib.Core.Path.{_≡_, refl, sym, ap, _∙_}
 use mathlib.Core.Bool.{Bool, true, false, not, cond, _&&_}
 use lib.Dec.{eqb}
 use lib.Ieee.{Float, Format, mul, top}
@@ -65,11 +65,12 @@ pow-chosen w x y a e = chosen-told w x y a ∙ ap (chosenTold w x y) e ∙ sorte
 
 -- ---- the chain's end, from the fate
 
-abbrev pub ended : Width → Two → Float → Fate → Float
+abbrev ended : Width → Two → Float → Fate → Float
 ended w p sn Over = overOf w sn
 ended w p sn Under = underOf w sn
 ended w p sn Within = mul (w .format) sn (exp2Of w p)
 
-pub finish-ended : (w : Width) (p : Two) (sn : Float) (f : Fate) → f ≡ fateOf w Over Under Within p → ended w p sn f ≡ finishOf w p sn
+-- v is what the fate f is told to be, and r what is returned there
+pub finish-ended : (w : Width) (p : Two) (sn : Float) {f v : Fate} {r : Float} → f ≡ fateOf w Over Under Within p → f ≡ v → r ≡ ended w p sn v → r ≡ finishOf w p sn
 unfolding finishOf
-finish-ended w p sn f e = ap (ended w p sn) e ∙ fate-map (ended w p sn) w Over Under Within p
+finish-ended w p sn e t k = k ∙ ap (ended w p sn) (sym t ∙ e) ∙ fate-map (ended w p sn) w Over Under Within p

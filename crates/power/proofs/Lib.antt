@@ -2,7 +2,9 @@ pub mod Numbers
 pub mod Words
 pub mod Cases
 pub mod Limits
+pub mod HighWord
 pub mod NearestWhole
+pub mod Intervals
 pub mod Nan
 pub mod Fits
 pub mod Exponent

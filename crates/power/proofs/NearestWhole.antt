@@ -6,9 +6,10 @@ use native.Mathlib.Nat.{div-one, mod-lt, add-sub-cancel, le-div-iff-mul-le, div-
 use native.Mathlib.Omega.{arith}
 use lib.Bits.{bitAnd, bitOr}
 use lib.Pow.{shr-le, pow-pos, pow-add}
-use lib.Ieee.{Float, ofBits, hid, top, emax, prec}
+use lib.Ieee.{Float, ofBits}
 use Rattle.power.specs.Width.{Width}
 use Rattle.power.specs.Chain.{nearestOf}
+use Rattle.power.proofs.HighWord.{High}
 use Rattle.power.proofs.Words.{size32, led, unmask, kept-lt}
 
 -- the exponent's field, and j with the half added
@@ -50,14 +51,6 @@ known m d r j room f l h =
     added : (j h t d r : ℕ) → t ≤ h → j < 2 ^ 32 → j % 2 ^ 31 < (d + 2 + r) * h → (d + 3 + r) * h ≤ 2 ^ 31 → (j + t < 2 ^ 32) × (((j + t) % 2 ^ 31 ≡ j % 2 ^ 31 + t) × (j % 2 ^ 31 + t < (d + 3 + r) * h))
     added j h t d r s f l room = let u : j % 2 ^ 31 + t < 2 ^ 31 = omega arith in (omega arith, (omega arith, omega arith))
 
--- the high word of a width: m digits below the exponent's field of 31 - m, in which 0.5 has d
-pub record High (w : Width) (m d : ℕ) : Type 0 where
-  pub unit : hid (w .format) / 2 ^ w .below ≡ 2 ^ m
-  pub sign : top (w .format) / 2 ^ w .below ≡ 2 ^ 31
-  pub digits : prec (w .format) - 1 - w .below ≡ m
-  pub one : emax (w .format) ≡ d + 1
-  pub small : m ≤ 32
-
 module _ (m d r j : ℕ) (a : Known m d r j) (h : r + 1 ≤ m) where
   -- how many digits of n stand below its leading one, and n
   abbrev past : ℕ
@@ -72,8 +65,8 @@ module _ (m d r j : ℕ) (a : Known m d r j) (h : r + 1 ≤ m) where
       let n = sum m d j in
       rw (led m n) (kept-lt m (r + 1) past (2 ^ m + n % 2 ^ m) h (omega (arith, a)) (omega (arith, mod-lt n (pow-pos m), pow-add 2 m 1)))
 
-  pub nearest-is : (w : Width) → High w m d → (x : Float) → x ≡ ofBits (w .format) (bitAnd (sum m d j) ((2 ^ 32 - 1) - (2 ^ m - 1) / 2 ^ past) * 2 ^ w .below) → record { size = size; float = x } ≡ nearestOf w j
+  pub nearest-is : {w : Width} → High w m d → (x : Float) → x ≡ ofBits (w .format) (bitAnd (sum m d j) ((2 ^ 32 - 1) - (2 ^ m - 1) / 2 ^ past) * 2 ^ w .below) → record { size = size; float = x } ≡ nearestOf w j
   unfolding nearestOf
-  nearest-is w g x e =
+  nearest-is g x e =
       let u = unmask m past 32 (sum m d j) (omega (arith, a)) (g .small) (a .fits) in
       rw (e, u, led m (sum m d j), g .sign, g .unit, g .digits, g .one, add-sub-cancel d 1) (simp size32)

@@ -2,7 +2,7 @@
 use Prim.Native.Nat.{ℕ, suc, _+_, _-_, _*_, _/_, _%_, _^_, _<_, _≤_}
 use mathlib.Core.Path.{_≡_, sym, ap, _∙_, subst}
 use lib.Bits.{bitAnd, bitOr, and-mask, and-high, or-shifted-r}
-use native.Mathlib.Nat.{mod-lt, mod-eq-of-lt, lt-of-lt-of-le, mul-comm, one-mul}
+use native.Mathlib.Nat.{mod-lt, mod-eq-of-lt, lt-of-lt-of-le, lt-of-le-of-lt, div-mul-le-self, add-comm, mul-comm, one-mul}
 use native.Mathlib.Omega.{arith}
 use lib.Pow.{shr-mod, shr-lt, pow-pos, pow-mono, ones-split, ones-lt, high}
 use Rattle.words.specs.Format.{format, top}
@@ -27,6 +27,13 @@ joined a k n = rw (and-mask n k) (or-shifted-r a k (n % 2 ^ k) (mod-lt n (pow-po
 -- the k lowest digits, with a leading one
 pub led : (k n : ℕ) → bitOr (bitAnd n (2 ^ k - 1)) (2 ^ k) ≡ 2 ^ k + n % 2 ^ k
 led k n = ap (bitOr (bitAnd n (2 ^ k - 1))) (sym (one-mul (2 ^ k))) ∙ joined 1 k n ∙ ap (λ (m : ℕ). m + n % 2 ^ k) (one-mul (2 ^ k))
+
+-- a number below 2 ^ n by the mask of the j highest of j + k digits, with 2 ^ n in front
+pub headed : (j k n m : ℕ) → n ≤ j + k → m < 2 ^ n → bitOr (bitAnd m (2 ^ (j + k) - 2 ^ k)) (2 ^ n) ≡ m / 2 ^ k * 2 ^ k + 2 ^ n
+headed j k n m l h =
+    let b = m / 2 ^ k * 2 ^ k in
+    rw (cut j k m (lt-of-lt-of-le h (pow-mono l)))
+    (ap (bitOr b) (sym (one-mul (2 ^ n))) ∙ or-shifted-r 1 n b (lt-of-le-of-lt (div-mul-le-self m (2 ^ k)) h) ∙ ap (λ (a : ℕ). a + b) (one-mul (2 ^ n)) ∙ add-comm (2 ^ n) b)
 
 -- the p lowest digits' mask, moved down by k and turned over: the mask of all but p - k digits of a word of w
 pub unmask : (p k w n : ℕ) → k ≤ p → p ≤ w → n < 2 ^ w → bitAnd n ((2 ^ w - 1) - (2 ^ p - 1) / 2 ^ k) ≡ n / 2 ^ (p - k) * 2 ^ (p - k)

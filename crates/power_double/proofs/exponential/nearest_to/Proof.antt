@@ -1,10 +1,10 @@
 use Prim.Native.Nat.{ℕ, _+_, _*_, _%_, _^_, _<_, _≤_}
-use mathlib.Core.Path.{_≡_, refl, ap, _∙_}
+use mathlib.Core.Path.{_≡_, ap, _∙_}
 use native.Mathlib.Nat.{add-zero}
 use native.Mathlib.Omega.{arith}
 use lib.Ieee.{binary64, ofBits, toBits, fits}
-use Rattle.power.specs.Power.{double}
-use Rattle.power.proofs.NearestWhole.{Known, known, High, size-small, nearest-is}
+use Rattle.power.proofs.HighWord.{high64}
+use Rattle.power.proofs.NearestWhole.{Known, known, size-small, nearest-is}
 use borrow.Author.Needs.{needs}
 use Rattle.power_double.proofs.exponential.nearest_to.Statement.{statement}
 use Rattle.power_double.proofs.exponential.nearest_to.Tie as tie
@@ -13,9 +13,6 @@ use Rattle.power_double.proofs.exponential.nearest_to.Tie as tie
 low-zero : (n : ℕ) → n * 2 ^ 32 + toBits binary64 (ofBits binary64 0) % 2 ^ 32 ≡ n * 2 ^ 32
 unfolding toBits ofBits
 low-zero n = add-zero (n * 2 ^ 32)
-
-high : High double 20 1022
-high = record { unit = refl; sign = refl; digits = refl; one = refl; small = omega arith }
 
 facts : (j : ℕ) → j < 2 ^ 32 → (0x3fe00000 < j % 2 ^ 31) × (j % 2 ^ 31 ≤ 0x4090cc00) → Known 20 1022 10 j
 facts j f h = known 20 1022 10 j (omega arith) f (omega arith) (omega arith)
@@ -48,7 +45,7 @@ returns : tie.Need-returns
 returns c =
     let j = c .before .args .j in
     let a = facts j (c .before .fits .j .fits) (c .before .pre) in
-    (nearest-is 20 1022 10 j a (omega arith) double high _ (c .with-set-high-word .ensures ∙ ap (ofBits binary64) (low-zero _)), size-small 20 1022 10 j a (omega arith))
+    (nearest-is 20 1022 10 j a (omega arith) high64 _ (c .with-set-high-word .ensures ∙ ap (ofBits binary64) (low-zero _)), size-small 20 1022 10 j a (omega arith))
 
 pub nearest-to-spec : {M : Type 1} → statement M
 nearest-to-spec =

@@ -1,8 +1,7 @@
 use mathlib.Core.Path.{sym, ap, _∙_}
 use lib.Ieee.{binary64, mul}
 use Rattle.power.specs.Power.{double}
-use Rattle.power.proofs.Cases.{ended, finish-ended}
-use Rattle.power_double.specs.Parts.{two}
+use Rattle.power.proofs.Cases.{finish-ended}
 use borrow.Author.Needs.{needs}
 use Rattle.power_double.proofs.pow.finish.Statement.{statement}
 use Rattle.power_double.proofs.pow.finish.Tie as tie
@@ -29,13 +28,13 @@ exp2-requires : tie.Need-exp2-requires
 exp2-requires c κs = sym (c .before .before .fate-of .ensures) ∙ c .enum-told3 .given .1
 
 returns : tie.Need-returns
-returns c = c .over-flow .ensures ∙ ap (ended double (two (c .before .before .before .before .args .p)) (c .before .before .before .before .args .sn)) (sym (c .before .enum-told .given .1)) ∙ finish-ended double (two (c .before .before .before .before .args .p)) (c .before .before .before .before .args .sn) _ (c .before .before .before .fate-of .ensures)
+returns c = finish-ended double _ _ (c .before .before .before .fate-of .ensures) (c .before .enum-told .given .1) (c .over-flow .ensures)
 
 returns-2 : tie.Need-returns-2
-returns-2 c = c .under-flow .ensures ∙ ap (ended double (two (c .before .before .before .before .args .p)) (c .before .before .before .before .args .sn)) (sym (c .before .enum-told2 .given .1)) ∙ finish-ended double (two (c .before .before .before .before .args .p)) (c .before .before .before .before .args .sn) _ (c .before .before .before .fate-of .ensures)
+returns-2 c = finish-ended double _ _ (c .before .before .before .fate-of .ensures) (c .before .enum-told2 .given .1) (c .under-flow .ensures)
 
 returns-3 : tie.Need-returns-3
-returns-3 c = ap (mul binary64 (c .before .before .before .before .args .sn)) (c .exp2 .ensures) ∙ ap (ended double (two (c .before .before .before .before .args .p)) (c .before .before .before .before .args .sn)) (sym (c .before .enum-told3 .given .1)) ∙ finish-ended double (two (c .before .before .before .before .args .p)) (c .before .before .before .before .args .sn) _ (c .before .before .before .fate-of .ensures)
+returns-3 c = finish-ended double _ _ (c .before .before .before .fate-of .ensures) (c .before .enum-told3 .given .1) (ap (mul binary64 (c .before .before .before .before .args .sn)) (c .exp2 .ensures))
 
 pub finish-spec : {M : Type 1} → statement M
 finish-spec =

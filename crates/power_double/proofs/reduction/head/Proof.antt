@@ -1,36 +1,32 @@
-use Prim.Native.Nat.{ℕ, _+_, _*_, _/_, _^_, _<_}
-use mathlib.Core.Path.{_≡_, ap, _∙_}
+use Prim.Native.Nat.{_/_}
+use mathlib.Core.Path.{ap, _∙_}
 use native.Mathlib.Omega.{arith}
-use lib.Bits.{bitAnd, bitOr, or-shifted-r}
 use lib.Ieee.{binary64, ofBits}
 use Rattle.power.specs.Chain.{headOf}
-use Rattle.power.proofs.Words.{cut}
+use Rattle.power.proofs.Words.{headed}
 use borrow.Author.Needs.{needs}
 use Rattle.power_double.proofs.reduction.head.Statement.{statement}
 use Rattle.power_double.proofs.reduction.head.Tie as tie
 
-head-word : (x : ℕ) → x < 2 ^ 62 → bitOr (bitAnd (x / 2) 0xffffffff00000000) 0x2000000000000000 ≡ x / 2 / 2 ^ 32 * 2 ^ 32 + 2 ^ 61
-head-word x h = rw (cut 32 32 (x / 2) (omega arith)) (or-shifted-r 1 61 (x / 2 / 2 ^ 32 * 2 ^ 32) (omega arith) ∙ omega arith)
-
 add-of-word64 : tie.Need-add-of-word64
-add-of-word64 c = omega (arith, head-word (c .before .args .ix) (omega arith))
+add-of-word64 c = omega (arith, headed 32 32 61 (c .before .args .ix / 2) (omega arith) (omega arith))
 
 of-word64-requires : tie.Need-of-word64-requires
 of-word64-requires c κs = search needs
 
 add-of-word64-2 : tie.Need-add-of-word64-2
-add-of-word64-2 c = omega (arith, head-word (c .before .args .ix) (omega arith))
+add-of-word64-2 c = omega (arith, headed 32 32 61 (c .before .args .ix / 2) (omega arith) (omega arith))
 
 of-word64-requires-2 : tie.Need-of-word64-requires-2
 of-word64-requires-2 c κs = search needs
 
 returns : tie.Need-returns
 unfolding headOf
-returns c = c .of-word64 .ensures ∙ ap (ofBits binary64) (omega (arith, head-word (c .before .before .args .ix) (omega arith)))
+returns c = c .of-word64 .ensures ∙ ap (ofBits binary64) (omega (arith, headed 32 32 61 (c .before .before .args .ix / 2) (omega arith) (omega arith)))
 
 returns-2 : tie.Need-returns-2
 unfolding headOf
-returns-2 c = c .of-word642 .ensures ∙ ap (ofBits binary64) (omega (arith, head-word (c .before .before .args .ix) (omega arith)))
+returns-2 c = c .of-word642 .ensures ∙ ap (ofBits binary64) (omega (arith, headed 32 32 61 (c .before .before .args .ix / 2) (omega arith) (omega arith)))
 
 pub head-spec : {M : Type 1} → statement M
 head-spec =

@@ -1,10 +1,10 @@
 use Prim.Native.Nat.{ℕ, _*_, _%_, _^_, _<_, _≤_}
-use mathlib.Core.Path.{_≡_, refl, sym, ap, _∙_}
+use mathlib.Core.Path.{_≡_, sym, ap, _∙_}
 use native.Mathlib.Nat.{mul-one}
 use native.Mathlib.Omega.{arith}
 use lib.Ieee.{binary32, ofBits}
-use Rattle.power.specs.Power.{single}
-use Rattle.power.proofs.NearestWhole.{Known, known, High, size-small, nearest-is}
+use Rattle.power.proofs.HighWord.{high32}
+use Rattle.power.proofs.NearestWhole.{Known, known, size-small, nearest-is}
 use borrow.Author.Needs.{needs}
 use Rattle.power_single.proofs.exponential.nearest_to.Statement.{statement}
 use Rattle.power_single.proofs.exponential.nearest_to.Tie as tie
@@ -12,9 +12,6 @@ use Rattle.power_single.proofs.exponential.nearest_to.Tie as tie
 -- no digits stand below the high word
 back : (n : ℕ) → n ≡ n * 2 ^ 0
 back n = sym (mul-one n)
-
-high : High single 23 126
-high = record { unit = refl; sign = refl; digits = refl; one = refl; small = omega arith }
 
 facts : (j : ℕ) → j < 2 ^ 32 → (0x3f000000 < j % 2 ^ 31) × (j % 2 ^ 31 ≤ 0x43160000) → Known 23 126 7 j
 facts j f h = known 23 126 7 j (omega arith) f (omega arith) (omega arith)
@@ -47,7 +44,7 @@ returns : tie.Need-returns
 returns c =
     let j = c .before .args .j in
     let a = facts j (c .before .fits .j .fits) (c .before .pre) in
-    (nearest-is 23 126 7 j a (omega arith) single high _ (c .of-word32 .ensures ∙ ap (ofBits binary32) (back _)), size-small 23 126 7 j a (omega arith))
+    (nearest-is 23 126 7 j a (omega arith) high32 _ (c .of-word32 .ensures ∙ ap (ofBits binary32) (back _)), size-small 23 126 7 j a (omega arith))
 
 pub nearest-to-spec : {M : Type 1} → statement M
 nearest-to-spec =
