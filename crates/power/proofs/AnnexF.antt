@@ -2,18 +2,19 @@
 -- f is a width's format, binary32 or binary64. A word's sign is true for negative.
 use Prim.Native.Nat.{ℕ, _+_, _<_, _≤_}
 use mathlib.Core.Path.{_≡_, refl, sym, ap, _∙_, subst, subst⁻¹}
-use mathlib.Core.Bool.{Bool, true, false, not, _&&_, _||_, cond}
+use mathlib.Core.Bool.{Bool, true, false, _||_, cond}
+use mathlib.Core.Logic.{inl}
 use native.Mathlib.Omega.{arith}
 use lib.Dec.{T, eqb, lit≤}
 use lib.Ieee.{Format, binary32, binary64, size}
-use borrow.Author.Tests.{lt-ltb, le-ltb, eq-eqb, ne-eqb}
+use borrow.Author.Tests.{lt-ltb, le-ltb, eq-eqb, ne-eqb, eqb-false, leb-true}
 use Rattle.words.specs.Format.{units, one, infinity, quiet, top, magnitude, negative, signed, ours}
 use Rattle.power.specs.Numbers.{whole, odd}
-use Rattle.power.specs.Sorting.{twoWord, halfWord, atInfinity, turned, atEdge, onEdge, sorted7, sorted6, sorted}
+use Rattle.power.specs.Sorting.{twoWord, atInfinity, turned, atEdge, onEdge, sorted7, sorted6, sorted}
 use Rattle.power.specs.Width.{Width}
 use Rattle.power.specs.Power.{powOf}
 use Rattle.power.specs.Chain.{openOf}
-use Rattle.power.proofs.Cases.{past5}
+use Rattle.power.proofs.Rules.{rule-infinite, past4, past5}
 use Rattle.power.proofs.Edges.{edgeWord, Finite, edge-odd, edge-even, turned-infinity}
 
 -- ---- pow(x, ±0) is 1 for every x, and pow(+1, y) is 1 for every y, even a NaN
@@ -77,11 +78,9 @@ marks binary32 = record { some = lit≤ tt; one-below = lit≤ tt; one-size = re
 marks binary64 = record { some = lit≤ tt; one-below = lit≤ tt; one-size = refl }
 
 infinite-power : (w : Width) (x y : ℕ) → magnitude (ours (w .format)) y ≡ infinity (ours (w .format)) → magnitude (ours (w .format)) x ≤ infinity (ours (w .format)) → eqb x (one (ours (w .format))) ≡ false → powOf w x y ≡ atInfinity (ours (w .format)) (magnitude (ours (w .format)) x) (negative (ours (w .format)) y)
-unfolding powOf sorted
+unfolding powOf
 infinite-power w x y e n o =
-    let f = w .format in
-    let i = infinity (ours f) in
-    rw (e, o, ne-eqb i 0 (λ q. omega (arith, marks f .some)), le-ltb i (magnitude (ours f) x) n, le-ltb i i (omega arith), eq-eqb i i refl) refl
+    sym (rule-infinite (λ r. r) (openOf w x y) (w .format) x y (λ q. omega (arith, marks (w .format) .some)) (eqb-false x (one (ours (w .format))) o) n (omega arith) e)
 
 -- an x whose size is not that of 1 is not 1
 not-one-by : (f : Format) (x : ℕ) → (magnitude (ours f) x ≡ one (ours f) → ⊥) → eqb x (one (ours f)) ≡ false
@@ -140,12 +139,8 @@ wholes binary64 = record { at-1 = refl; at-m1 = refl; at-2 = refl; plus = refl }
 apart : (b : Bool) → b ≡ true → b ≡ false → ⊥
 apart b t f = let z : true ≡ false = sym t ∙ f in subst T z tt
 
-not-at : (f : Format) (y v : ℕ) → whole (ours f) (magnitude (ours f) v) ≡ true → whole (ours f) (magnitude (ours f) y) ≡ false → eqb y v ≡ false
-not-at f y v t n = ne-eqb y v (λ e. apart (whole (ours f) (magnitude (ours f) y)) (ap (λ (q : ℕ). whole (ours f) (magnitude (ours f) q)) e ∙ t) n)
-
-and-false : (b : Bool) → b && false ≡ false
-and-false true = refl
-and-false false = refl
+not-at : (f : Format) (y v : ℕ) → whole (ours f) (magnitude (ours f) v) ≡ true → whole (ours f) (magnitude (ours f) y) ≡ false → y ≡ v → ⊥
+not-at f y v t n e = apart (whole (ours f) (magnitude (ours f) y)) (ap (λ (q : ℕ). whole (ours f) (magnitude (ours f) q)) e ∙ t) n
 
 six-nan : (u : Bool → ℕ) (f : Format) (ix iy : ℕ) (down : Bool) → 0 < ix → ix < infinity (ours f) → whole (ours f) iy ≡ false → sorted6 (λ r. r) u (ours f) ix true iy down ≡ quiet (ours f)
 unfolding sorted6 sorted7 atEdge odd
@@ -156,14 +151,13 @@ six-nan u f ix iy down p l n = go (eqb ix (one (ours f))) refl
     go false e = rw (ne-eqb ix (infinity (ours f)) (λ q. omega arith), ne-eqb ix 0 (λ q. omega arith), e, n) refl
 
 pub below-zero : (w : Width) (x y : ℕ) → negative (ours (w .format)) x ≡ true → Finite (w .format) x → Finite (w .format) y → whole (ours (w .format)) (magnitude (ours (w .format)) y) ≡ false → powOf w x y ≡ quiet (ours (w .format))
-unfolding powOf sorted
+unfolding powOf
 below-zero w x y n hx hy h =
     let f = w .format in
     let m = magnitude (ours f) y in
     let k = wholes f in
     let u = openOf w x y in
-    let d : eqb y (halfWord (ours f)) && not (negative (ours f) x) ≡ false = ap (λ (b : Bool). eqb y (halfWord (ours f)) && not b) n ∙ and-false (eqb y (halfWord (ours f))) in
-    rw (ne-eqb m 0 (λ e. omega (arith, hy .some)), ne-eqb x (one (ours f)) (λ e. apart (negative (ours f) x) n (ap (negative (ours f)) e ∙ k .plus)), le-ltb (infinity (ours f)) (magnitude (ours f) x) (omega (arith, hx .below)), le-ltb (infinity (ours f)) m (omega (arith, hy .below)), ne-eqb m (infinity (ours f)) (λ e. omega (arith, hy .below)))
-    (sym (past5 (λ r. r) u f x y (not-at f y (one (ours f)) (k .at-1) h) (not-at f y (top (ours f) + one (ours f)) (k .at-m1) h) (not-at f y (twoWord (ours f)) (k .at-2) h) d) ∙
+    sym (past4 (λ r. r) u f x y (λ e. omega (arith, hy .some)) (λ e. apart (negative (ours f) x) n (ap (negative (ours f)) e ∙ k .plus)) (omega (arith, hx .below)) (omega (arith, hy .below)) (λ e. omega (arith, hy .below))) ∙
+    sym (past5 (λ r. r) u f x y (not-at f y (one (ours f)) (k .at-1) h) (not-at f y (top (ours f) + one (ours f)) (k .at-m1) h) (not-at f y (twoWord (ours f)) (k .at-2) h) (inl (leb-true (top (ours f)) x n))) ∙
     ap (λ (b : Bool). sorted6 (λ r. r) u (ours f) (magnitude (ours f) x) b m (negative (ours f) y)) n ∙
-    six-nan u f (magnitude (ours f) x) m (negative (ours f) y) (hx .some) (hx .below) h)
+    six-nan u f (magnitude (ours f) x) m (negative (ours f) y) (hx .some) (hx .below) h

@@ -1,16 +1,14 @@
 -- The definitions that pick one of their arguments by tests: what is done to the answer may be done to the arguments. Assumes nothing.
-use Prim.Native.Nat.{ℕ, _+_}
+use Prim.Native.Nat.{ℕ}
 use mathlib.Core.Path.{_≡_, refl, sym, ap, _∙_}
-use mathlib.Core.Bool.{Bool, true, false, not, cond, _&&_}
-use lib.Dec.{eqb}
-use lib.Ieee.{Float, Format, mul, top}
+use mathlib.Core.Bool.{Bool, true, false, cond}
+use lib.Ieee.{Float, Format, mul}
 use Rattle.power.specs.declared.answer.Fate.{Fate}
 use Rattle.power.specs.declared.answer.Fate.the-variants.{Over, Under, Within}
 use Rattle.power.specs.declared.answer.Sorted.{Sorted}
 use Rattle.power.specs.declared.answer.Sorted.the-variants.{Settled, Open}
-use Rattle.words.specs.Format as Words
-use Rattle.words.specs.Format.{one, magnitude, negative, ours}
-use Rattle.power.specs.Sorting.{twoWord, halfWord, atEdge, onEdge, sorted, sorted5, sorted6, sorted7, Told, told, toldSettled, toldOpen}
+use Rattle.words.specs.Format.{negative}
+use Rattle.power.specs.Sorting.{sorted, sorted5, sorted6, sorted7, Told, told, toldSettled, toldOpen}
 use Rattle.power.specs.Width.{Width, Two}
 use Rattle.power.specs.Chain.{fateOf, exp2Of, overOf, underOf, finishOf, openOf}
 use Rattle.power.specs.Power.{powOf}
@@ -22,25 +20,6 @@ push g false x y = refl
 pub sorted-map : {A B : Type 0} (g : A → B) (s : ℕ → A) (u : Bool → A) (f : Format) (x y : ℕ) → g (sorted s u f x y) ≡ sorted (λ n. g (s n)) (λ b. g (u b)) f x y
 unfolding sorted sorted5 sorted6 sorted7
 sorted-map g s u f x y = simp (push g)
-
--- rule 6, and past it a positive and a negative x
-module _ {R : Type 0} (s : ℕ → R) (u : Bool → R) (f : Words.Format) (ix : ℕ) (minus : Bool) (iy : ℕ) (down : Bool) where
-  pub on-edge : onEdge f ix ≡ true → s (atEdge f ix minus iy down) ≡ sorted6 s u f ix minus iy down
-  unfolding sorted6
-  on-edge e = rw e refl
-
-  pub past-plus : onEdge f ix ≡ false → minus ≡ false → u false ≡ sorted6 s u f ix minus iy down
-  unfolding sorted6 sorted7
-  past-plus e m = rw (e, m) refl
-
-  pub past-minus : onEdge f ix ≡ false → minus ≡ true → sorted7 s u f true iy ≡ sorted6 s u f ix minus iy down
-  unfolding sorted6
-  past-minus e m = rw (e, m) refl
-
--- past rule 5, where y is none of its four, or 0.5 with the sign of x set
-pub past5 : {R : Type 0} (s : ℕ → R) (u : Bool → R) (f : Format) (x y : ℕ) → eqb y (one (ours f)) ≡ false → eqb y (top f + one (ours f)) ≡ false → eqb y (twoWord (ours f)) ≡ false → eqb y (halfWord (ours f)) && not (negative (ours f) x) ≡ false → sorted6 s u (ours f) (magnitude (ours f) x) (negative (ours f) x) (magnitude (ours f) y) (negative (ours f) y) ≡ sorted5 s u f x y
-unfolding sorted5
-past5 s u f x y a b c d = rw (a, b, c, d) refl
 
 fate-map : {A B : Type 0} (g : A → B) (w : Width) (a b c : A) (p : Two) → g (fateOf w a b c p) ≡ fateOf w (g a) (g b) (g c) p
 unfolding fateOf

@@ -14,7 +14,7 @@ use Rattle.power.specs.Sorting.{twoWord, halfWord, over, square, turned,
 use Rattle.power.specs.Width.{Width}
 use Rattle.power.specs.Power.{powOf}
 use Rattle.power.specs.Chain.{openOf}
-use Rattle.power.proofs.Cases.{on-edge}
+use Rattle.power.proofs.Rules.{on-edge}
 
 -- ---- x is ±0 (i is false) or ±∞ (i is true), with the sign s
 

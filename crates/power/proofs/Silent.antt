@@ -1,29 +1,27 @@
 -- The two places where C's Annex F is silent, as document 01 settles them: y = 1, -1, 2 and 0.5 by one IEEE 754 operation, and -1 to a whole y exactly. Assumes nothing.
 use Prim.Native.Nat.{ℕ, _+_, _≤_}
 use mathlib.Core.Path.{_≡_, refl, sym, _∙_, subst}
-use mathlib.Core.Bool.{Bool, true, false, _&&_, cond}
+use mathlib.Core.Bool.{Bool, true, false, cond, and-false}
 use native.Mathlib.Nat.{zero-add}
 use native.Mathlib.Omega.{arith}
 use lib.Dec.{eqb, lit≤}
 use lib.Ieee.{Format, binary32, binary64, ofBits, toBits, mul, div, round, size}
-use borrow.Author.Tests.{le-ltb, eq-eqb, ne-eqb}
+use borrow.Author.Tests.{eq-eqb, eqb-false}
 use Rattle.words.specs.Format.{units, one, infinity, top, magnitude, negative, signed, ours}
 use Rattle.root.specs.Root.{rootWord}
 use Rattle.power.specs.Numbers.{whole, odd}
-use Rattle.power.specs.Sorting.{twoWord, halfWord, over, square, turned, atEdge, onEdge, sorted5, sorted}
+use Rattle.power.specs.Sorting.{twoWord, halfWord, over, square, turned, atEdge, onEdge, sorted5}
 use Rattle.power.specs.Width.{Width}
 use Rattle.power.specs.Power.{powOf}
 use Rattle.power.specs.Chain.{openOf}
-use Rattle.power.proofs.Cases.{on-edge}
+use Rattle.power.proofs.Rules.{on-edge, past4}
 use Rattle.power.proofs.Edges.{Finite, by-test}
 
 -- rules 1 to 4 do not settle an x that is no NaN and not 1, and a finite y that is not 0
 reach5 : (w : Width) (x y : ℕ) → eqb x (one (ours (w .format))) ≡ false → magnitude (ours (w .format)) x ≤ infinity (ours (w .format)) → Finite (w .format) y → powOf w x y ≡ sorted5 (λ r. r) (openOf w x y) (w .format) x y
-unfolding powOf sorted
+unfolding powOf
 reach5 w x y o n h =
-    let f = w .format in
-    let m = magnitude (ours f) y in
-    rw (o, ne-eqb m 0 (λ e. omega (arith, h .some)), le-ltb (infinity (ours f)) (magnitude (ours f) x) n, le-ltb (infinity (ours f)) m (omega (arith, h .below)), ne-eqb m (infinity (ours f)) (λ e. omega (arith, h .below))) refl
+    sym (past4 (λ r. r) (openOf w x y) (w .format) x y (λ e. omega (arith, h .some)) (eqb-false x (one (ours (w .format))) o) n (omega (arith, h .below)) (λ e. omega (arith, h .below)))
 
 -- the four named y
 record Named (f : Format) : Type 0 where
@@ -112,7 +110,3 @@ minus-one-whole w y h k =
     (by-test y (twoWord (ours f)) (square f x) _ (exact f y) (λ e. subst (λ (v : ℕ). square f x ≡ exact f v) (sym e) (p .at-2))
     (rw (p .sign, p .size, and-false (eqb y (halfWord (ours f))))
     (sym (on-edge (λ r. r) u (ours f) (one (ours f)) true (magnitude (ours f) y) (negative (ours f) y) (p .edge)) ∙ six-exact f y k))))
-  where
-    and-false : (b : Bool) → b && false ≡ false
-    and-false true = refl
-    and-false false = refl
