@@ -10,29 +10,17 @@ use Rattle.power.proofs.double.sort_from5_64.Tie as tie
 returns : tie.Need-returns
 returns c = rule-to-one toldSettled toldOpen binary64 _ _ (c .if1 .taken)
 
-reciprocal64-requires : tie.Need-reciprocal64-requires
-reciprocal64-requires c κs = search needs
-
 returns-2 : tie.Need-returns-2
 returns-2 c = ap toldSettled (c .reciprocal64 .ensures) ∙ rule-to-minus toldSettled toldOpen binary64 _ _ (c .before .before .if1 .left) (c .before .if2 .taken)
 
-square64-requires : tie.Need-square64-requires
-square64-requires c κs = search needs
-
 returns-3 : tie.Need-returns-3
 returns-3 c = ap toldSettled (c .square64 .ensures) ∙ rule-to-two toldSettled toldOpen binary64 _ _ (c .before .before .before .if1 .left) (c .before .before .if2 .left) (c .before .if3 .taken)
-
-root64-requires : tie.Need-root64-requires
-root64-requires c κs = search needs
 
 returns-4 : tie.Need-returns-4
 returns-4 c =
     let b = c .before .before .before in
     ap toldSettled (c .root64 .ensures) ∙
     rule-to-half toldSettled toldOpen binary64 _ _ (b .before .before .if1 .left) (b .before .if2 .left) (b .if3 .left) (c .before .before .if4 .taken) (c .before .if5 .taken)
-
-sort-from6-64-requires : tie.Need-sort-from6-64-requires
-sort-from6-64-requires c κs = search needs
 
 returns-5 : tie.Need-returns-5
 returns-5 c =
@@ -45,11 +33,11 @@ sort-from5-64-spec =
     tie.close
     (tie.spec
     returns
-    reciprocal64-requires
+    (λ c κs. search needs)
     returns-2
-    square64-requires
+    (λ c κs. search needs)
     returns-3
-    root64-requires
+    (λ c κs. search needs)
     returns-4
-    sort-from6-64-requires
+    (λ c κs. search needs)
     returns-5)

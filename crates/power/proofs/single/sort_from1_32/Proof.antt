@@ -20,9 +20,6 @@ returns-3 c = rule-nan-x toldSettled toldOpen binary32 _ _ (rw size32 at (c .bef
 returns-4 : tie.Need-returns-4
 returns-4 c = rule-nan-y toldSettled toldOpen binary32 _ _ (rw size32 at (c .before .before .before .if1 .left)) (c .before .before .if2 .left) (rw size32 at (c .before .if3 .left)) (rw size32 at (c .if4 .taken))
 
-cast-infinite : tie.Need-cast-infinite
-cast-infinite c = search needs
-
 infinite-requires : tie.Need-infinite-requires
 infinite-requires c κs = held32
 
@@ -49,7 +46,7 @@ sort-from1-32-spec =
     returns-2
     returns-3
     returns-4
-    cast-infinite
+    (λ c. search needs)
     infinite-requires
     returns-5
     sort-from5-32-requires

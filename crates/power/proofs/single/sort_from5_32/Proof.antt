@@ -10,38 +10,17 @@ use Rattle.power.proofs.single.sort_from5_32.Tie as tie
 returns : tie.Need-returns
 returns c = rule-to-one toldSettled toldOpen binary32 _ _ (c .if1 .taken)
 
-reciprocal32-requires : tie.Need-reciprocal32-requires
-reciprocal32-requires c κs = search needs
-
-cast-t6 : tie.Need-cast-t6
-cast-t6 c = search needs
-
 returns-2 : tie.Need-returns-2
 returns-2 c = ap toldSettled (c .reciprocal32 .ensures) ∙ rule-to-minus toldSettled toldOpen binary32 _ _ (c .before .before .if1 .left) (c .before .if2 .taken)
 
-square32-requires : tie.Need-square32-requires
-square32-requires c κs = search needs
-
-cast-t8 : tie.Need-cast-t8
-cast-t8 c = search needs
-
 returns-3 : tie.Need-returns-3
 returns-3 c = ap toldSettled (c .square32 .ensures) ∙ rule-to-two toldSettled toldOpen binary32 _ _ (c .before .before .before .if1 .left) (c .before .before .if2 .left) (c .before .if3 .taken)
-
-root32-requires : tie.Need-root32-requires
-root32-requires c κs = search needs
-
-cast-t11 : tie.Need-cast-t11
-cast-t11 c = search needs
 
 returns-4 : tie.Need-returns-4
 returns-4 c =
     let b = c .before .before .before in
     ap toldSettled (c .root32 .ensures) ∙
     rule-to-half toldSettled toldOpen binary32 _ _ (b .before .before .if1 .left) (b .before .if2 .left) (b .if3 .left) (c .before .before .if4 .taken) (c .before .if5 .taken)
-
-sort-from6-32-requires : tie.Need-sort-from6-32-requires
-sort-from6-32-requires c κs = search needs
 
 returns-5 : tie.Need-returns-5
 returns-5 c =
@@ -54,14 +33,14 @@ sort-from5-32-spec =
     tie.close
     (tie.spec
     returns
-    reciprocal32-requires
-    cast-t6
+    (λ c κs. search needs)
+    (λ c. search needs)
     returns-2
-    square32-requires
-    cast-t8
+    (λ c κs. search needs)
+    (λ c. search needs)
     returns-3
-    root32-requires
-    cast-t11
+    (λ c κs. search needs)
+    (λ c. search needs)
     returns-4
-    sort-from6-32-requires
+    (λ c κs. search needs)
     returns-5)

@@ -13,17 +13,11 @@ use Rattle.power_double.proofs.exponential.fate_of.Tie as tie
 returns : tie.Need-returns
 returns c = fate-above double _ (differs-nan binary64 _ (c .if1 .taken)) (lit≤ tt) (lit≤ tt)
 
-to-word64-requires : tie.Need-to-word64-requires
-to-word64-requires c κs = search needs
-
 returns-2 : tie.Need-returns-2
 returns-2 c = fate-inside double _ (c .before .to-word64 .ensures) (c .before .to-word64 .ok) (rw size64 at (c .if2 .taken)) (omega arith)
 
 returns-3 : tie.Need-returns-3
 returns-3 c = fate-above double _ (c .before .before .before .to-word64 .ensures) (c .before .if3 .taken) (c .if4 .taken)
-
-constant-requires : tie.Need-constant-requires
-constant-requires c κs = search needs
 
 returns-4 : tie.Need-returns-4
 returns-4 c =
@@ -58,10 +52,10 @@ fate-of-spec =
     tie.close
     (tie.spec
     returns
-    to-word64-requires
+    (λ c κs. search needs)
     returns-2
     returns-3
-    constant-requires
+    (λ c κs. search needs)
     returns-4
     returns-5
     returns-6

@@ -32,14 +32,8 @@ sub-k c = facts (c .args .j) (c .fits .j .fits) (c .pre) .from
 sub-t5 : tie.Need-sub-t5
 sub-t5 c = omega (arith, facts (c .args .j) (c .fits .j .fits) (c .pre))
 
-shr-t8 : tie.Need-shr-t8
-shr-t8 c = search needs
-
 shr-with-set-high-word : tie.Need-shr-with-set-high-word
 shr-with-set-high-word c = omega (arith, facts (c .args .j) (c .fits .j .fits) (c .pre))
-
-with-set-high-word-requires : tie.Need-with-set-high-word-requires
-with-set-high-word-requires c κs = search needs
 
 returns : tie.Need-returns
 returns c =
@@ -50,4 +44,4 @@ returns c =
 pub nearest-to-spec : {M : Type 1} → statement M
 nearest-to-spec =
     tie.close
-    (tie.spec sub-n shr-n add-n sub-k sub-t5 shr-t8 shr-with-set-high-word with-set-high-word-requires returns)
+    (tie.spec sub-n shr-n add-n sub-k sub-t5 (λ c. search needs) shr-with-set-high-word (λ c κs. search needs) returns)

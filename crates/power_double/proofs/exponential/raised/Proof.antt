@@ -6,38 +6,17 @@ use borrow.Author.Needs.{needs}
 use Rattle.power_double.proofs.exponential.raised.Statement.{statement}
 use Rattle.power_double.proofs.exponential.raised.Tie as tie
 
-get-high-word-requires : tie.Need-get-high-word-requires
-get-high-word-requires c κs = search needs
-
-wrapping-add-u32-requires : tie.Need-wrapping-add-u32-requires
-wrapping-add-u32-requires c κs = search needs
-
-unbiased-requires : tie.Need-unbiased-requires
-unbiased-requires c κs = search needs
-
-scale64-requires : tie.Need-scale64-requires
-scale64-requires c κs = search needs
-
 returns : tie.Need-returns
 returns c =
     let b = c .before .before .before in
     let a = b .before .before in
     c .scale64 .ensures ∙ raised-past high64 (a .args .z) (a .args .e) (b .before .get-high-word .ensures) (b .wrapping-add-u32 .ensures) (rw (c .before .unbiased .ensures) (unbiased-back 4096 (a .args .e) (omega arith) (a .pre))) (c .before .before .if1 .taken)
 
-unbiased-requires-2 : tie.Need-unbiased-requires-2
-unbiased-requires-2 c κs = search needs
-
-scale64-requires-2 : tie.Need-scale64-requires-2
-scale64-requires-2 c κs = search needs
-
 returns-2 : tie.Need-returns-2
 returns-2 c =
     let b = c .before .before .before .before in
     let a = b .before .before in
     c .scale642 .ensures ∙ raised-below high64 (a .args .z) (a .args .e) (b .before .get-high-word .ensures) (b .wrapping-add-u32 .ensures) (rw (c .before .unbiased2 .ensures) (unbiased-back 4096 (a .args .e) (omega arith) (a .pre))) (c .before .before .before .if1 .left) (c .before .before .if2 .taken)
-
-with-set-high-word-requires : tie.Need-with-set-high-word-requires
-with-set-high-word-requires c κs = search needs
 
 returns-3 : tie.Need-returns-3
 returns-3 c =
@@ -49,13 +28,13 @@ pub raised-spec : {M : Type 1} → statement M
 raised-spec =
     tie.close
     (tie.spec
-    get-high-word-requires
-    wrapping-add-u32-requires
-    unbiased-requires
-    scale64-requires
+    (λ c κs. search needs)
+    (λ c κs. search needs)
+    (λ c κs. search needs)
+    (λ c κs. search needs)
     returns
-    unbiased-requires-2
-    scale64-requires-2
+    (λ c κs. search needs)
+    (λ c κs. search needs)
     returns-2
-    with-set-high-word-requires
+    (λ c κs. search needs)
     returns-3)

@@ -11,14 +11,8 @@ use Rattle.power_double.proofs.reduction.head.Tie as tie
 add-of-word64 : tie.Need-add-of-word64
 add-of-word64 c = omega (arith, headed 32 32 61 (c .before .args .ix / 2) (omega arith) (omega arith))
 
-of-word64-requires : tie.Need-of-word64-requires
-of-word64-requires c κs = search needs
-
 add-of-word64-2 : tie.Need-add-of-word64-2
 add-of-word64-2 c = omega (arith, headed 32 32 61 (c .before .args .ix / 2) (omega arith) (omega arith))
-
-of-word64-requires-2 : tie.Need-of-word64-requires-2
-of-word64-requires-2 c κs = search needs
 
 returns : tie.Need-returns
 unfolding headOf
@@ -33,8 +27,8 @@ head-spec =
     tie.close
     (tie.spec
     add-of-word64
-    of-word64-requires
+    (λ c κs. search needs)
     add-of-word64-2
-    of-word64-requires-2
+    (λ c κs. search needs)
     returns
     returns-2)

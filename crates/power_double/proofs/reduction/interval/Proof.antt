@@ -6,17 +6,8 @@ use borrow.Author.Needs.{needs}
 use Rattle.power_double.proofs.reduction.interval.Statement.{statement}
 use Rattle.power_double.proofs.reduction.interval.Tie as tie
 
-cast-n : tie.Need-cast-n
-cast-n c = search needs
-
-add-n : tie.Need-add-n
-add-n c = search needs
-
 sub-t12 : tie.Need-sub-t12
 sub-t12 c = omega (arith, joined 1023 52 (c .before .before .args .ix))
-
-add-t13 : tie.Need-add-t13
-add-t13 c = search needs
 
 returns : tie.Need-returns
 returns c = (interval-first double _ _ (c .if1 .taken), omega (arith, joined 1023 52 (c .before .args .ix)))
@@ -28,4 +19,4 @@ returns-3 : tie.Need-returns-3
 returns-3 c = (interval-last double _ _ (c .before .if1 .left) (c .if2 .left), omega (arith, joined 1023 52 (c .before .before .args .ix)))
 
 pub interval-spec : {M : Type 1} → statement M
-interval-spec = tie.close (tie.spec cast-n add-n sub-t12 add-t13 returns returns-2 returns-3)
+interval-spec = tie.close (tie.spec (λ c. search needs) (λ c. search needs) sub-t12 (λ c. search needs) returns returns-2 returns-3)

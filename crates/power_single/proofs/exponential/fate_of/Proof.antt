@@ -13,17 +13,11 @@ use Rattle.power_single.proofs.exponential.fate_of.Tie as tie
 returns : tie.Need-returns
 returns c = fate-above single _ (differs-nan binary32 _ (c .if1 .taken)) (lit≤ tt) (lit≤ tt)
 
-to-word32-requires : tie.Need-to-word32-requires
-to-word32-requires c κs = search needs
-
 returns-2 : tie.Need-returns-2
 returns-2 c = fate-inside single _ (c .before .to-word32 .ensures) (c .before .to-word32 .ok) (rw size32 at (c .if2 .taken)) (omega arith)
 
 returns-3 : tie.Need-returns-3
 returns-3 c = fate-above single _ (c .before .before .before .to-word32 .ensures) (c .before .if3 .taken) (c .if4 .taken)
-
-constant-requires : tie.Need-constant-requires
-constant-requires c κs = search needs
 
 returns-4 : tie.Need-returns-4
 returns-4 c =
@@ -58,10 +52,10 @@ fate-of-spec =
     tie.close
     (tie.spec
     returns
-    to-word32-requires
+    (λ c κs. search needs)
     returns-2
     returns-3
-    constant-requires
+    (λ c κs. search needs)
     returns-4
     returns-5
     returns-6

@@ -31,14 +31,8 @@ sub-k c = facts (c .args .j) (c .fits .j .fits) (c .pre) .from
 sub-t5 : tie.Need-sub-t5
 sub-t5 c = omega (arith, facts (c .args .j) (c .fits .j .fits) (c .pre))
 
-shr-t8 : tie.Need-shr-t8
-shr-t8 c = search needs
-
 shr-of-word32 : tie.Need-shr-of-word32
 shr-of-word32 c = omega (arith, facts (c .args .j) (c .fits .j .fits) (c .pre))
-
-of-word32-requires : tie.Need-of-word32-requires
-of-word32-requires c κs = search needs
 
 returns : tie.Need-returns
 returns c =
@@ -49,4 +43,4 @@ returns c =
 pub nearest-to-spec : {M : Type 1} → statement M
 nearest-to-spec =
     tie.close
-    (tie.spec sub-n shr-n add-n sub-k sub-t5 shr-t8 shr-of-word32 of-word32-requires returns)
+    (tie.spec sub-n shr-n add-n sub-k sub-t5 (λ c. search needs) shr-of-word32 (λ c κs. search needs) returns)

@@ -11,14 +11,8 @@ use Rattle.power_single.proofs.reduction.head.Tie as tie
 add-of-word32 : tie.Need-add-of-word32
 add-of-word32 c = omega (arith, headed 20 12 29 (c .before .args .ix / 2) (omega arith) (omega arith))
 
-of-word32-requires : tie.Need-of-word32-requires
-of-word32-requires c κs = search needs
-
 add-of-word32-2 : tie.Need-add-of-word32-2
 add-of-word32-2 c = omega (arith, headed 20 12 29 (c .before .args .ix / 2) (omega arith) (omega arith))
-
-of-word32-requires-2 : tie.Need-of-word32-requires-2
-of-word32-requires-2 c κs = search needs
 
 returns : tie.Need-returns
 unfolding headOf
@@ -33,8 +27,8 @@ head-spec =
     tie.close
     (tie.spec
     add-of-word32
-    of-word32-requires
+    (λ c κs. search needs)
     add-of-word32-2
-    of-word32-requires-2
+    (λ c κs. search needs)
     returns
     returns-2)

@@ -6,14 +6,8 @@ use borrow.Author.Needs.{needs}
 use Rattle.power_single.proofs.reduction.interval.Statement.{statement}
 use Rattle.power_single.proofs.reduction.interval.Tie as tie
 
-add-n : tie.Need-add-n
-add-n c = search needs
-
 sub-t11 : tie.Need-sub-t11
 sub-t11 c = omega (arith, joined 127 23 (c .before .before .args .ix))
-
-add-t12 : tie.Need-add-t12
-add-t12 c = search needs
 
 returns : tie.Need-returns
 returns c = (interval-first single (c .before .args .ix) _ (omega (arith, c .if1 .taken)), omega (arith, joined 127 23 (c .before .args .ix)))
@@ -25,4 +19,4 @@ returns-3 : tie.Need-returns-3
 returns-3 c = (interval-last single _ _ (c .before .if1 .left) (c .if2 .left), omega (arith, joined 127 23 (c .before .before .args .ix)))
 
 pub interval-spec : {M : Type 1} → statement M
-interval-spec = tie.close (tie.spec add-n sub-t11 add-t12 returns returns-2 returns-3)
+interval-spec = tie.close (tie.spec (λ c. search needs) sub-t11 (λ c. search needs) returns returns-2 returns-3)
