@@ -2,7 +2,7 @@
 use Prim.Native.Nat.{ℕ, suc, _+_, _-_, _*_, _/_, _%_, _^_, _<_, _≤_}
 use mathlib.Core.Path.{_≡_, sym, ap, _∙_, subst}
 use lib.Bits.{bitAnd, bitOr, and-mask, and-high, or-shifted-r}
-use native.Mathlib.Nat.{mod-lt, mod-eq-of-lt, lt-of-lt-of-le, lt-of-le-of-lt, div-mul-le-self, add-comm, mul-comm, one-mul}
+use native.Mathlib.Nat.{mod-lt, lt-of-lt-of-le, lt-of-le-of-lt, div-mul-le-self, add-comm, mul-comm, one-mul}
 use native.Mathlib.Omega.{arith}
 use lib.Pow.{shr-mod, shr-lt, pow-pos, pow-mono, ones-split, ones-lt, high}
 use Rattle.words.specs.Format.{format, top}
@@ -58,13 +58,6 @@ held32 = record { least = omega arith; small = omega arith; room = omega arith; 
 
 pub held64 : Held 53 1023
 held64 = record { least = omega arith; small = omega arith; room = omega arith; high = omega arith }
-
--- a field in its place
-pub placed : (p t : ℕ) → p ≤ 53 → t ≤ 2 ^ 11 → t * 2 ^ (p - 1) % 2 ^ 64 ≡ t * 2 ^ (p - 1)
-placed p t hp ht = mod-eq-of-lt (below (t * 2 ^ (p - 1)) (room t p ht hp))
-  where
-    below : (n : ℕ) → n ≤ 2 ^ 63 → n < 2 ^ 64
-    below n h = omega arith
 
 pub top-small : (p e : ℕ) → Held p e → top (format p e) ≤ 2 ^ 63
 top-small p e h = subst (λ (n : ℕ). n ≤ 2 ^ 63) (mul-comm (suc (2 * e + 1)) (2 ^ (p - 1))) (room (suc (2 * e + 1)) p (omega (arith, h .high)) (h .small))

@@ -8,10 +8,10 @@ ghost use Rattle.words.specs.Rounding.{Held};
 ghost use Rattle.power.specs.Sorting.{atInfinity, turned, atEdge, onEdge, sorted7, told, toldSettled, toldOpen};
 use super::answer::Sorted;
 use super::kind::kind_of;
-use super::marks::infinity_of;
 use super::marks::one_of;
 use super::marks::quiet_of;
 use super::marks::top_of;
+use words::weights::infinity_of;
 
 // Rule 4: a power to an infinity.
 pub fn infinite(p: u64, emax: u64, ix: u64, down: bool) -> u64

@@ -1,30 +1,16 @@
 // The words by which the rules go, in the format of p digits and largest exponent emax: exponents'
 // fields, shifted to their place above the p - 1 digits.
 ghost use mathlib.Core.Path.{_≡_};
-ghost use Prim.Native.Nat.{_≤_, _*_, _^_, _-_};
-ghost use Rattle.words.specs.Format.{format, one, infinity, top, quiet};
+ghost use Rattle.words.specs.Format.{format, one, top, quiet};
 ghost use Rattle.words.specs.Rounding.{Held};
-
-// A field alone.
-fn field(p: u64, t: u64) -> u64
-    requires { ⌜ (1 ≤ p) × (p ≤ 53) × (t ≤ 2 ^ 11) ⌝ }
-    ensures { λ r. ⌜ r ≡ t * 2 ^ (p - 1) ⌝ }
-{
-    t << (p - 1)
-}
+use words::weights::field;
+use words::weights::infinity_of;
 
 pub fn one_of(p: u64, emax: u64) -> u64
     requires { ⌜ Held p emax ⌝ }
     ensures { λ r. ⌜ r ≡ one (format p emax) ⌝ }
 {
     field(p, emax)
-}
-
-pub fn infinity_of(p: u64, emax: u64) -> u64
-    requires { ⌜ Held p emax ⌝ }
-    ensures { λ r. ⌜ r ≡ infinity (format p emax) ⌝ }
-{
-    field(p, 2 * emax + 1)
 }
 
 // The sign alone.

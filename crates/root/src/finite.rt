@@ -10,7 +10,7 @@ use super::operand::Parts;
 use super::operand::parts_of;
 use super::rounds::digit_rounds;
 use super::weights::hid_of;
-use super::weights::infinity_of;
+use words::weights::infinity_of;
 
 // The number that is e above -b.
 fn biased(e: i32, b: u32) -> u32
@@ -47,7 +47,7 @@ pub fn root_word(x: u64, p: u32, emax: u32) -> u64
     ensures { λ r. ⌜ r ≡ rootWord (format p emax) x ⌝ }
 {
     let hid = hid_of(p);
-    let infinity = infinity_of(p, emax);
+    let infinity = infinity_of(p as u64, emax as u64);
     if x == 0 {
         return x;
     }

@@ -5,10 +5,10 @@ ghost use Rattle.words.specs.Rounding.{Held};
 ghost use Rattle.root.specs.Partial.{partialRoot, refused};
 use super::operand::parts_of;
 use super::rounds::digit_rounds;
-use super::weights::infinity_of;
 use words::refusal::DONE;
 use words::refusal::NOT_POSITIVE;
 use words::refusal::TOO_MANY_ROUNDS;
+use words::weights::infinity_of;
 
 // A refusal number, Q, the left-over, and the rounds that were run.
 #[repr(C)]
@@ -39,7 +39,7 @@ pub fn partial_root(x: u64, p: u32, emax: u32, k: u32) -> PartialRoot
     if x == 0 {
         return refusal_of(NOT_POSITIVE);
     }
-    if infinity_of(p, emax) <= x {
+    if infinity_of(p as u64, emax as u64) <= x {
         return refusal_of(NOT_POSITIVE);
     }
     if p + 1 < k {

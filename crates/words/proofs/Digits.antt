@@ -29,3 +29,10 @@ room t p T P = le-trans (mul-le-mul T (pow-mono (fit p P))) (lit≤ tt)
   where
     fit : (p : ℕ) → p ≤ 53 → p - 1 ≤ 52
     fit p h = omega arith
+
+-- a field in its place
+pub placed : (p t : ℕ) → p ≤ 53 → t ≤ 2 ^ 11 → t * 2 ^ (p - 1) % 2 ^ 64 ≡ t * 2 ^ (p - 1)
+placed p t hp ht = mod-eq-of-lt (below (t * 2 ^ (p - 1)) (room t p ht hp))
+  where
+    below : (n : ℕ) → n ≤ 2 ^ 63 → n < 2 ^ 64
+    below n h = omega arith

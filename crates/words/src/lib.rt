@@ -4,3 +4,4 @@ pub mod answer;
 pub mod bridge;
 pub mod fabs;
 pub mod refusal;
+pub mod weights;
