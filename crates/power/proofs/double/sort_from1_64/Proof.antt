@@ -1,3 +1,4 @@
+-- `power::double::sort_from1_64` meets its contract: each return is one of rules 1 to 4 or goes past them, by power/proofs/Rules.antt. Assumes nothing.
 use mathlib.Core.Path.{ap, _∙_}
 use native.Mathlib.Omega.{arith}
 use lib.Ieee.{binary64}

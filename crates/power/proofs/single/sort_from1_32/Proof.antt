@@ -1,3 +1,4 @@
+-- `power::single::sort_from1_32` meets its contract: each return is one of rules 1 to 4 or goes past them, by power/proofs/Rules.antt. Assumes nothing.
 use mathlib.Core.Path.{ap, _∙_}
 use native.Mathlib.Omega.{arith}
 use lib.Ieee.{binary32}

@@ -1,3 +1,4 @@
+-- `power_double::exponential::nearest_to` meets its contract: `known` bounds the shifts and differences, and `nearest-is` is the result, by power/proofs/NearestWhole.antt. Assumes nothing.
 use Prim.Native.Nat.{ℕ, _+_, _*_, _%_, _^_, _<_, _≤_}
 use mathlib.Core.Path.{_≡_, ap, _∙_}
 use native.Mathlib.Nat.{add-zero}

@@ -1,3 +1,4 @@
+-- `power_double::exponential::raised` meets its contract: each return is one way of the raised exponent, by power/proofs/HighWord.antt. Assumes nothing.
 use mathlib.Core.Path.{_∙_}
 use native.Mathlib.Omega.{arith}
 use Rattle.power.proofs.HighWord.{high64, raised-past, raised-below, raised-placed}

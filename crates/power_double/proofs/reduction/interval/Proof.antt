@@ -1,3 +1,4 @@
+-- `power_double::reduction::interval` meets its contract: each return is one of the three intervals, by power/proofs/Intervals.antt. Assumes nothing.
 use native.Mathlib.Omega.{arith}
 use Rattle.power.specs.Power.{double}
 use Rattle.power.proofs.Words.{joined}

@@ -1,3 +1,4 @@
+-- `power_single::exponential::nearest_to` meets its contract: `known` bounds the shifts and differences, and `nearest-is` is the result, by power/proofs/NearestWhole.antt. Assumes nothing.
 use Prim.Native.Nat.{ℕ, _*_, _%_, _^_, _<_, _≤_}
 use mathlib.Core.Path.{_≡_, sym, ap, _∙_}
 use native.Mathlib.Nat.{mul-one}

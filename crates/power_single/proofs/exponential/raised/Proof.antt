@@ -1,3 +1,4 @@
+-- `power_single::exponential::raised` meets its contract: each return is one way of the raised exponent, by power/proofs/HighWord.antt. Assumes nothing.
 use Prim.Native.Nat.{ℕ, _+_, _*_, _/_, _%_, _^_}
 use mathlib.Core.Path.{_≡_, sym, ap, _∙_}
 use native.Mathlib.Nat.{div-one, mul-one, mod-one, add-zero}

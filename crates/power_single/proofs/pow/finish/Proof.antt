@@ -1,3 +1,4 @@
+-- `power_single::pow::finish` meets its contract: each return is the end of its fate, by `finish-ended`. Assumes nothing.
 use mathlib.Core.Path.{sym, ap, _∙_}
 use lib.Ieee.{binary32, mul}
 use Rattle.power.specs.Power.{single}
