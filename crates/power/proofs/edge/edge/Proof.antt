@@ -1,3 +1,4 @@
+-- `power::edge::edge` meets its contract: each way is the definition's. Assumes nothing.
 use native.Mathlib.Omega.{arith}
 use borrow.Author.Tests.{eq-eqb, ne-eqb}
 use Rattle.power.specs.Sorting.{atEdge}

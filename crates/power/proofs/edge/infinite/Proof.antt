@@ -1,3 +1,4 @@
+-- `power::edge::infinite` meets its contract: each way is the definition's. Assumes nothing.
 use borrow.Author.Tests.{lt-ltb, le-ltb, eq-eqb, ne-eqb}
 use Rattle.power.specs.Sorting.{atInfinity}
 use borrow.Author.Needs.{needs}

@@ -1,3 +1,4 @@
+-- `power::edge::is_edge` meets its contract: each way is the definition's. Assumes nothing.
 use borrow.Author.Tests.{eq-eqb, ne-eqb}
 use borrow.Author.Needs.{needs}
 use Rattle.power.proofs.edge.is_edge.Statement.{statement}

@@ -1,3 +1,4 @@
+-- `power::edge::sort_minus` meets its contract: each way is the definition's. Assumes nothing.
 use Rattle.power.specs.Sorting.{sorted7}
 use borrow.Author.Needs.{needs}
 use Rattle.power.proofs.edge.sort_minus.Statement.{statement}

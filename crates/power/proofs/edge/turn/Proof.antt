@@ -1,3 +1,4 @@
+-- `power::edge::turn` meets its contract: each way is the definition's. Assumes nothing.
 use mathlib.Core.Path.{subst⁻¹}
 use borrow.Author.Tests.{eq-eqb, ne-eqb}
 use native.Mathlib.Omega.{arith}

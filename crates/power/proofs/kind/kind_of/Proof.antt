@@ -1,3 +1,4 @@
+-- `power::kind::kind_of` meets its contract: each way is a law of whole and odd numbers. Assumes nothing.
 use Prim.Native.Nat.{ℕ, _+_, _-_, _/_, _^_, _≤_}
 use mathlib.Core.Path.{sym, subst⁻¹}
 use native.Mathlib.Omega.{arith}

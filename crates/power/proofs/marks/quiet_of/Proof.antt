@@ -1,3 +1,4 @@
+-- `power::marks::quiet_of` meets its contract: infinity's word and half a field's weight fit a word. Assumes nothing.
 use Prim.Native.Nat.{ℕ, _+_, _-_, _*_, _/_, _^_, _<_, _≤_}
 use native.Mathlib.Omega.{arith}
 use mathlib.Core.Path.{_≡_}

@@ -1,3 +1,4 @@
+-- `power::single::reciprocal32` meets its contract: the operations are the definition's, in its order. Assumes nothing.
 use Rattle.power.specs.Sorting.{over}
 use borrow.Author.Needs.{needs}
 use Rattle.power.proofs.single.reciprocal32.Statement.{statement}

@@ -1,3 +1,4 @@
+-- `power::unbiased::unbiased` meets its contract: a field without its bias fits a signed number. Assumes nothing.
 use mathlib.Core.Path.{subst⁻¹}
 use mir.Syntax.{w32}
 use mir.Val.{SFits}

@@ -1,3 +1,4 @@
+-- `power_double::halves::with_set_high_word` meets its contract: the low half stays and the high half is the one given. Assumes nothing.
 use Prim.Native.Nat.{ℕ, _+_, _*_, _%_, _^_}
 use mathlib.Core.Path.{_≡_, ap, _∙_}
 use native.Mathlib.Omega.{arith}

@@ -1,3 +1,4 @@
+-- `power_double::halves::with_set_low_word` meets its contract: the high half stays and the low half is the one given. Assumes nothing.
 use Prim.Native.Nat.{ℕ, _+_, _*_, _/_, _^_, _<_}
 use mathlib.Core.Path.{_≡_, sym, ap, subst, subst⁻¹, _∙_}
 use mathlib.Core.Bool.{not}

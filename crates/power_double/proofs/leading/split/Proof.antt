@@ -1,3 +1,4 @@
+-- `power_double::leading::split` meets its contract: a NaN gives NaNs, and else the operations are the definition's, in its order. Assumes nothing.
 use mathlib.Core.Path.{_∙_}
 use Rattle.power.specs.Chain.{splitOf}
 use Rattle.power.proofs.Nan.{differs, sub-nan-l, sub-nan-r, short64}

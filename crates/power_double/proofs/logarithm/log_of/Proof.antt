@@ -1,3 +1,4 @@
+-- `power_double::logarithm::log_of` meets its contract: each way is the definition's. Assumes nothing.
 use borrow.Author.Tests.{lt-ltb, le-ltb}
 use Rattle.power.specs.Chain.{logOf}
 use borrow.Author.Needs.{needs}

@@ -1,3 +1,4 @@
+-- `power_double::logarithm::series` meets its contract: the operations are the definition's, in its order. Assumes nothing.
 use Rattle.power.specs.Chain.{seriesOf}
 use borrow.Author.Needs.{needs}
 use Rattle.power_double.proofs.logarithm.series.Statement.{statement}

@@ -1,3 +1,4 @@
+-- `power_double::pow::open` meets its contract: each way is the definition's. Assumes nothing.
 use mathlib.Core.Logic.{⊎-elim}
 use native.Mathlib.Omega.{arith}
 use borrow.Author.Tests.{lt-ltb, le-ltb, le-leb, lt-leb}

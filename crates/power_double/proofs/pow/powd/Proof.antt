@@ -1,3 +1,4 @@
+-- `power_double::pow::powd` meets its contract: a settled pair is the sorting's, and an open one the chain's. Assumes nothing.
 use mathlib.Core.Path.{sym, ap, _∙_}
 use Rattle.power.specs.Power.{double}
 use Rattle.power.proofs.Cases.{chosen, pow-chosen}

@@ -1,3 +1,4 @@
+-- `power_double::reduction::exponent` meets its contract: the field without its bias is a float. Assumes nothing.
 use mathlib.Core.Path.{ap}
 use native.Mathlib.Omega.{arith}
 use lib.Ieee.{binary64, ofInt}

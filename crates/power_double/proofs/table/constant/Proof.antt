@@ -1,3 +1,4 @@
+-- `power_double::table::constant` meets its contract: the array's word is the table's. Assumes nothing.
 use Rattle.power.specs.Chain.{con}
 use Rattle.power.specs.Table64.{table64}
 use borrow.Author.Needs.{needs}

@@ -1,3 +1,4 @@
+-- `power_single::logarithm::far` meets its contract: the operations are the definition's, in its order. Assumes nothing.
 use mathlib.Core.Path.{_∙_}
 use Rattle.power.specs.Chain.{farAt, farOf}
 use borrow.Author.Needs.{needs}

@@ -1,3 +1,4 @@
+-- `power_single::logarithm::quotient` meets its contract: a NaN gives NaNs, and else the operations are the definition's, in its order. Assumes nothing.
 use Rattle.power.specs.Chain.{quotientOf}
 use Rattle.power.proofs.Nan.{differs, div-nan-l, sub-nan-l, sub-nan-r, mul-nan-l, mul-nan-r, short32}
 use borrow.Author.Needs.{needs}

@@ -1,3 +1,4 @@
+-- `power_single::pow::open` meets its contract: each way is the definition's. Assumes nothing.
 use Prim.Native.Nat.{ℕ, _%_, _^_}
 use mathlib.Core.Path.{_≡_}
 use mathlib.Core.Bool.{false}

@@ -1,3 +1,4 @@
+-- `power_single::pow::powf` meets its contract: a settled pair is the sorting's, and an open one the chain's. Assumes nothing.
 use mathlib.Core.Path.{sym, ap, _∙_}
 use lib.Ieee.{binary32}
 use Rattle.power.specs.Power.{single}

@@ -1,3 +1,4 @@
+-- `power_single::reduction::exponent` meets its contract: the field without its bias is a float. Assumes nothing.
 use mathlib.Core.Path.{ap, subst⁻¹}
 use native.Mathlib.Omega.{arith}
 use lib.Dec.{T}
