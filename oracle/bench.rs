@@ -12,18 +12,20 @@ use std::fmt::Write;
 use std::io::{stderr, IsTerminal};
 use std::time::Instant;
 
-/// A row's medians in nanoseconds for one operand, in the order of rows::SIDES.
+/// A row's medians in the order of rows::SIDES: nanoseconds for one operand, and the port's time over that
+/// of the side in the same round.
 pub struct Timed {
     pub call: &'static str,
     pub operands: &'static str,
     pub target: Option<f64>,
     pub ns: [f64; 4],
+    ratios: [f64; 4],
 }
 
 impl Timed {
     /// The port's time over that of a side.
     pub fn ratio(&self, side: usize) -> f64 {
-        self.ns[3] / self.ns[side]
+        self.ratios[side]
     }
     pub fn met(&self) -> bool {
         self.target.is_none_or(|most| self.ratio(0) <= most)
@@ -76,21 +78,26 @@ fn main() {
     std::process::exit(i32::from(!missed.is_empty()));
 }
 
-/// The sides in turn, each a pass, as often as asked; the median of each side's passes.
+/// The sides in turn, each a pass, as often as asked. A round begins with another side each time, and its
+/// ratios are of passes that follow each other, so that a processor that changes its speed changes both.
 fn time(row: &mut Row, rounds: usize) -> Timed {
     let mut passes: [Vec<f64>; 4] = Default::default();
-    for _ in 0..rounds {
-        for (side, passes) in row.sides.iter_mut().zip(&mut passes) {
+    for round in 0..rounds {
+        for turn in 0..4 {
+            let side = (round + turn) % 4;
             let start = Instant::now();
-            side();
-            passes.push(start.elapsed().as_secs_f64() * 1e9 / PASS as f64);
+            row.sides[side]();
+            passes[side].push(start.elapsed().as_secs_f64() * 1e9 / PASS as f64);
         }
     }
-    let ns = passes.map(|mut times| {
-        times.sort_by(f64::total_cmp);
-        times[times.len() / 2]
-    });
-    Timed { call: row.call, operands: row.operands, target: row.target, ns }
+    let ns = [0, 1, 2, 3].map(|side| median(passes[side].clone()));
+    let ratios = [0, 1, 2, 3].map(|side| median(passes[3].iter().zip(&passes[side]).map(|(a, b)| a / b).collect()));
+    Timed { call: row.call, operands: row.operands, target: row.target, ns, ratios }
+}
+
+fn median(mut values: Vec<f64>) -> f64 {
+    values.sort_by(f64::total_cmp);
+    values[values.len() / 2]
 }
 
 /// The medians and the ratios, as text in columns or as a table of Markdown.
@@ -141,7 +148,7 @@ fn page(timed: &[Timed], rounds: usize, machine: &str, verdict: &str) -> String 
 Written by `./bench`; run it again for the figures of another machine. {verdict}.
 
 Nanoseconds for one operand, the median of {rounds} passes over {PASS} operands; the four sides of a row take
-their passes in turn, in one binary. {machine}
+their passes in turn, in one binary, and a ratio is the median of the ratios of those {rounds} rounds. {machine}
 
 - **original without sse**: libm.rs of lexical-parse-float 1.0.6 without its sse and sse2 branches, which is what a
   target without these has and what the port is rewritten from. **original as it stands**: on x86-64 its roots are
