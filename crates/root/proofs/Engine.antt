@@ -28,6 +28,10 @@ half-grid n i r h g =
     (omega arith, omega arith)
 
 module _ (p w i s r left : ℕ) (st : State p w i s r left) (more : i < p + 1) where
+  -- the weight of the next digit is not 0
+  pub weighs : 0 < r / 2
+  weighs = subst (λ (z : ℕ). 0 < z) (sym (half-grid (p + 1) i r more (st .grid) .0)) (pow-pos (p + 1 - (i + 1)))
+
   pub hit : s + r / 2 ≤ left → State p w (i + 1) (s + r / 2 + r / 2) (r / 2) (left - (s + r / 2) + (left - (s + r / 2)))
   hit t =
       let h : ℕ = r / 2 in

@@ -8,7 +8,9 @@ pub struct Digits {
 }
 
 // The first k digits of the root of w, of p or p + 1 digits, and what is left. Each round halves r,
-// the weight of its digit, and tries the digit; s is twice the digits found so far at that weight.
+// the weight of its digit, and tries the digit: whether t is at most what is left, asked as whether the
+// number before it is less, since a processor tells that from one flag and not from two. s is twice
+// the digits found so far at that weight.
 pub fn digit_rounds(w: u64, p: u32, k: u32) -> Digits
     requires { ⌜ Asked p w k ⌝ }
     ensures { λ r. ⌜ Rounds p w k (r .digits) (r .left) ⌝ }
@@ -20,7 +22,7 @@ pub fn digit_rounds(w: u64, p: u32, k: u32) -> Digits
     while i < k {
         r = r >> 1;
         let t = s + r;
-        if t <= left {
+        if s + (r - 1) < left {
             left = left - t;
             s = t + r;
         }
