@@ -1,7 +1,7 @@
 // loop NAME make: 100,000,003 bytes of a program's input from a xorshift generator: roots of any
 // positive word, scalings of any word with n from -20 to 20, powers of numbers from 0.5 to 2 with y
 // within 128. loop bytes make: as many bytes of any value.
-// loop NAME FILE: the least time, in microseconds, of five loops over a function of the C face, one
+// loop NAME FILE: the less time, in microseconds, of two loops over a function of the C face, one
 // call for each whole record of the file, results kept in memory. tools/throughput holds the
 // programs to it.
 use std::io::Write;
@@ -73,7 +73,7 @@ fn main() {
     };
     let mut results = vec![0u64; input.len() / size];
     let mut least = u128::MAX;
-    for _ in 0..5 {
+    for _ in 0..2 {
         let start = std::time::Instant::now();
         for (r, to) in input.chunks_exact(size).zip(&mut results) {
             *to = call(r);
