@@ -77,7 +77,7 @@ pub fn near64(x: u64, n: i32) -> u64
 }
 
 // The word of x times 2^n for a word that is no NaN's. Zeros and infinities are unchanged; any other
-// number is an infinity 2098 places up, and a zero 2098 places down.
+// number is an infinity more than 2098 places up, and a zero more than 2098 down.
 fn number64(x: u64, n: i32) -> u64
     requires { ⌜ magnitude binary64 x ≤ infinity binary64 ⌝ }
     ensures { λ r. ⌜ r ≡ scaled binary64 x n ⌝ }

@@ -95,7 +95,7 @@ fn tiny32(m: u32, n: i32) -> u32
 }
 
 // The word of x times 2^n for every x and n. Only a NaN's word gives the NaN; zeros and infinities are
-// unchanged; any other number is an infinity 277 places up, and a zero 277 places down.
+// unchanged; any other number is an infinity more than 277 places up, and a zero more than 277 down.
 fn rare32(x: u32, n: i32) -> u32
     ensures { λ r. ⌜ r ≡ scaled binary32 x n ⌝ }
 {
