@@ -1,16 +1,19 @@
 -- What is kept of num / den units, and what it rounds to: equal fractions alike, nothing to nothing, never past infinity. Over any format. Assumes nothing.
-use mathlib.Core.Path.{_≡_, sym, ap, _∙_, subst}
-use Prim.Native.Nat.{ℕ, _+_, _-_, _*_, _/_, _^_, _≤_, _<_, min}
-use native.Mathlib.Nat.{zero-div, zero-mod, le-trans, le-of-eq, mul-comm, mul-div-mul-left, div-div-eq-div-mul, le-div-iff-mul-le}
+use mathlib.Core.Path.{_≡_, refl, sym, ap, _∙_, subst}
+use Prim.Native.Nat.{ℕ, zero, suc, _+_, _-_, _*_, _/_, _%_, _^_, _≤_, _<_, min}
+use native.Mathlib.Nat.{zero-div, zero-mod, le-trans, le-of-eq, mul-one, mul-comm, mul-div-mul-left, div-div-eq-div-mul, le-div-iff-mul-le, div-add-mod', mod-lt}
 use native.Mathlib.Omega.{arith}
 use mathlib.Core.Bool.{Bool, true, false}
+use lib.Dec.{eqb}
 use lib.Pow.{pow-add, pow-pos}
 use lib.Ieee.{size}
 use lib.Ieee.Digits.{size-reaches}
 use lib.Ieee.Fits.{kept-lt}
 use Rattle.words.specs.Format.{Format, hid, infinity, units, unitsAt}
-use Rattle.words.specs.Rounding.{Rule, even, bit, most, places, kept, wordAt, roundedAt, rounded}
+use Rattle.words.specs.Rounding.{Rule, even, odd, bit, most, places, kept, wordAt, roundedAt, rounded}
 use Rattle.words.proofs.Words.{infinity-some}
+use Rattle.words.proofs.Digits.{twice-hid}
+use Rattle.words.proofs.Units.{units-sub, units-normal}
 use Rattle.words.proofs.Cut.{cut-same, cut-left}
 
 bit-le : (b : Bool) → bit b ≤ 1
@@ -69,3 +72,47 @@ module _ (f : Format) (num den : ℕ) (P : 0 < f .digits) (D : 0 < den) where
     where
       all-in-use : (z p : ℕ) → 0 < p → 0 < z - p → p - 1 + (z - p) < z
       all-in-use z p P h = omega arith
+
+-- ---- a finite number of the format is rounded to itself, however its units are written
+pub rounded-exact : (f : Format) (w num den : ℕ) → 0 < f .digits → w < infinity f → 0 < den → units f w * den ≡ num → rounded f num den ≡ w
+unfolding roundedAt wordAt
+rounded-exact f w num den P B D e = by (w / hid f) refl
+  where
+    h : ℕ
+    h = hid f
+
+    digits : w / h * h + w % h ≡ w
+    digits = div-add-mod' w h
+
+    below : w % h < h
+    below = mod-lt w (pow-pos (f .digits - 1))
+
+    -- m digits with k places behind them, where k * h + m is the word
+    at : (k m : ℕ) → k * h + m ≡ w → m < 2 ^ f .digits → (0 < k → h ≤ m) → units f w ≡ m * 2 ^ k → rounded f num den ≡ w
+    at k m is M K u =
+        let v = cut-left f m k P M K in
+        rounded-same f num den (m * 2 ^ k) 1 D (omega arith) (ap (λ (z : ℕ). z * 1) (sym e ∙ ap (λ (z : ℕ). z * den) u) ∙ mul-one (m * 2 ^ k * den))
+        ∙ sym (λ i. roundedAt even f (v .places-are i) (v .kept-is i) (v .rest-is i))
+        ∙ whole (2 * m) (half m) (even-not m)
+      where
+        half : (m : ℕ) → 2 * m / 2 ≡ m
+        half m = omega arith
+
+        even-not : (m : ℕ) → eqb (2 * m % 2) 1 ≡ false
+        even-not m = ap (λ (z : ℕ). eqb z 1) (rem m)
+          where
+            rem : (m : ℕ) → 2 * m % 2 ≡ 0
+            rem m = omega arith
+
+        whole : (q : ℕ) → q / 2 ≡ m → odd q ≡ false → min (k * h + q / 2 + bit (even (odd (q / 2)) (odd q) false)) (most even f) ≡ w
+        whole q a b = ap (λ (t : Bool). min (k * h + q / 2 + bit (even (odd (q / 2)) t false)) (most even f)) b ∙ least (k * h + q / 2) (most even f) (ap (λ (z : ℕ). k * h + z) a ∙ is) (omega (arith, B))
+          where
+            least : (n o : ℕ) → n ≡ w → w ≤ o → min (n + 0) o ≡ w
+            least n o p l = omega arith
+
+    by : (y : ℕ) → w / h ≡ y → rounded f num den ≡ w
+    by zero z = at 0 (w % h) (omega (arith, digits, ap (λ (k : ℕ). k * h) z)) (omega (arith, below, twice-hid (f .digits) P)) (λ l. absurd (none l)) (sym (units-sub f w z) ∙ sym (mul-one (w % h)))
+      where
+        none : 0 < 0 → ⊥
+        none l = omega arith
+    by (suc y) z = at y (h + w % h) (omega (arith, digits, ap (λ (k : ℕ). k * h) z)) (omega (arith, below, twice-hid (f .digits) P)) (λ l. omega arith) (sym (units-normal f w y z))

@@ -1,11 +1,11 @@
 -- Units of a word by its fields, and of a word that is put together from a field and digits. Over any format. Assumes nothing.
-use mathlib.Core.Path.{_≡_, sym, ap, _∙_, subst}
+use mathlib.Core.Path.{_≡_, refl, sym, ap, _∙_, subst}
 use mathlib.Core.Logic.{_⊎_, inl, inr}
-use Prim.Native.Nat.{ℕ, suc, _+_, _-_, _*_, _/_, _%_, _^_, _≤_, _<_}
-use native.Mathlib.Nat.{le-refl, le-trans, le-suc, lt-trans, eq-or-lt-of-le, eq-zero-or-pos, add-suc, pow-succ', div-add-mod', mod-lt, le-div-iff-mul-le, mul-one, mul-add-div-right, mul-add-mod-self-right, div-eq-of-lt, mod-eq-of-lt}
+use Prim.Native.Nat.{ℕ, zero, suc, _+_, _-_, _*_, _/_, _%_, _^_, _≤_, _<_}
+use native.Mathlib.Nat.{le-refl, le-trans, le-suc, lt-trans, eq-or-lt-of-le, eq-zero-or-pos, add-suc, pow-succ', div-add-mod', mod-lt, le-div-iff-mul-le, mul-one, mul-assoc, mul-add-div-right, mul-add-mod-self-right, div-eq-of-lt, mod-eq-of-lt}
 use native.Mathlib.Omega.{arith}
 use native.Mathlib.Decide.{decLt}
-use lib.Pow.{pow-pos}
+use lib.Pow.{pow-pos, pow-add}
 use Rattle.words.specs.Format.{Format, hid, infinity, units, unitsAt}
 use Rattle.words.proofs.Digits.{twice-hid}
 
@@ -160,3 +160,24 @@ module _ (f : Format) (P : 0 < f .digits) (E : 1 ≤ f .emax) where
 
       full : (h t : ℕ) → t ≡ 2 * h → h ≤ t
       full h t w = omega arith
+
+-- n more in the exponent's field of a normal number is 2 ^ n times the number
+pub units-raised : (f : Format) (n r : ℕ) → 0 < f .digits → hid f ≤ r → units f (n * hid f + r) ≡ units f r * 2 ^ n
+units-raised f n r P h = by (r / hid f) refl
+  where
+    digits : r / hid f * hid f + r % hid f ≡ r
+    digits = div-add-mod' r (hid f)
+
+    below : r % hid f < hid f
+    below = mod-lt r (pow-pos (f .digits - 1))
+
+    by : (y : ℕ) → r / hid f ≡ y → units f (n * hid f + r) ≡ units f r * 2 ^ n
+    by zero e = absurd (omega (arith, digits, below, h, ap (λ (z : ℕ). z * hid f) e))
+    by (suc y) e =
+        let m : ℕ = hid f + r % hid f in
+        let is : n * hid f + r ≡ (y + n) * hid f + m = omega (arith, digits, ap (λ (z : ℕ). z * hid f) e) in
+        ap (units f) is
+        ∙ units-word f (y + n) m P (omega (arith, below, twice-hid (f .digits) P)) (λ l. omega arith)
+        ∙ ap (λ (z : ℕ). m * z) (pow-add 2 y n)
+        ∙ sym (mul-assoc m (2 ^ y) (2 ^ n))
+        ∙ ap (λ (z : ℕ). z * 2 ^ n) (units-normal f r y e)
