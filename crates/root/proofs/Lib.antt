@@ -4,3 +4,4 @@ pub mod Operands
 pub mod Signed
 pub mod Words
 pub mod Sentences
+pub mod Order
