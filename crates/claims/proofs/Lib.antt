@@ -6,3 +6,4 @@ pub mod Agreement
 pub mod Products
 pub mod Streams
 pub mod AnnexF
+pub mod Planners

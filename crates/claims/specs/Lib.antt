@@ -3,3 +3,4 @@ pub mod OpenPowers
 pub mod Rounds
 pub mod Operations
 pub mod AnnexF
+pub mod Planners
