@@ -1,4 +1,4 @@
--- Request 12, the facts of roots: a root never falls, and 4 ^ k times the operand has 2 ^ k times the root. From the laws of `root`, once over the format. Assumes nothing.
+-- Request 12: a root never falls, 4 ^ k times the operand has 2 ^ k times the root, and what the sign of x does to a power. The roots' facts go by the laws of `root`, once over the format; the power's by those of `sign`. Assumes nothing.
 use Prim.Native.Nat.{ℕ, suc, _-_, _*_, _^_, _≤_, _<_}
 use mathlib.Core.Path.{_≡_, refl, sym, ap, subst, _∙_}
 use mathlib.Core.Logic.{_⊎_, inl, inr, ⊎-elim}
@@ -21,6 +21,9 @@ use Rattle.root.proofs.Words.{Fine, root-zero, root-infinity}
 use Rattle.root.proofs.Sentences.{root-normal}
 use Rattle.root.proofs.Order.{root-rises, root-four}
 use Rattle.scale.proofs.Scaled.{scaled-size}
+use Rattle.power.specs.Power.{single, double}
+use Rattle.sign.specs.Sign.{Signs}
+use Rattle.sign.proofs.Signs.{signs32, signs64}
 use Rattle.claims.specs.Planners.{Nonnegative, AtMost, RootRises, PositiveNormal, FourTimes, RootFour}
 
 module _ (f : Format) (g : Fine f) (small : f .digits ≤ 60) where
@@ -123,6 +126,14 @@ request-12-four-32 = root-fours binary32 (omega arith) (omega arith)
 
 pub request-12-four-64 : RootFour binary64
 request-12-four-64 = root-fours binary64 (omega arith) (omega arith)
+
+-- ---- changing the sign of x changes the sign bit of the power for odd y, and no bit for even y
+
+pub request-12-sign-32 : Signs single
+request-12-sign-32 = signs32
+
+pub request-12-sign-64 : Signs double
+request-12-sign-64 = signs64
 
 -- ---- the definitions on a few words: -0 and +0 are equal and below the least number, the largest number is below +inf, and 1/4, 1 and 4 are each four times the one before
 

@@ -1,0 +1,9 @@
+pub mod Flipped
+pub mod Negated
+pub mod Operations
+pub mod OtherSign
+pub mod Parity
+pub mod Reached
+pub mod OddPowers
+pub mod EvenPowers
+pub mod Signs
