@@ -9,11 +9,12 @@ use native.Mathlib.Omega.{arith}
 use mathlib.Core.Bool.{Bool, true, false, not, cond}
 use lib.Dec.{T, leb, ltb, ltb→lt, nltb→le}
 use lib.Pow.{pow-pos, pow-mono}
-use lib.Ieee.{Float, Format, emax, low, hid, ones, top, add, isNan, toBits}
+use lib.Ieee.{Float, Format, emax, low, hid, ones, top, add, sub, toBits}
 use lib.Ieee.Bits.{ofBits-toBits}
 use Rattle.words.specs.Format.{unitsAt}
 use Rattle.power.specs.Width.{Width, Two}
 use Rattle.power.specs.Chain.{nearestOf, raisedOf, whole, exponentialOf, partsOf, exp2Of}
+use Rattle.power.specs.NoNan.{Number, Raisable, fractionOf}
 use Rattle.bounds.proofs.Formats.{one, infinity}
 use Rattle.bounds.proofs.Signed.{mag, Num}
 use Rattle.bounds.proofs.Within.{U, Within, unit-scale, weaken}
@@ -21,6 +22,7 @@ use Rattle.bounds.proofs.SumBounds.{w-add}
 use Rattle.bounds.proofs.Words.{Placed, placed, rem, word-of}
 use Rattle.bounds.proofs.Choice.{choose}
 use Rattle.chain.proofs.Known.{Known}
+use Rattle.chain.proofs.NoNan.{finite-number}
 use Rattle.chain.proofs.Sizes.{top-pos, ones-most, size-below, size-under, unit-half, emax-least}
 use Rattle.chain.proofs.Raise.{raised-number, under-top}
 use Rattle.chain.proofs.HighWord.{in-places, whole-word, in-hid}
@@ -204,12 +206,14 @@ module _ (w : Width) (K : Known w) where
             fin : (h r b lo q u : ℕ) → r ≡ 0 → lo < b → b * 2 ^ 11 ≤ h → u ≡ 2 * h * q → 2 ^ 30 * ((h + (r * b + lo)) * q) ≤ 600000000 * u
             fin h r b lo q u a c d e = omega (arith, e, mul-le-mul-right q d, mul-le-mul-right q (le-of-lt c), ap (λ (y : ℕ). y * (b * q)) a)
 
-    -- ---- no NaN, if past emax the raised word is infinity's at most
-    pub exp2-number : (leb t j ≡ false → emax f < wholeOf w p .size → Rounded f z (wholeOf w p)
+    -- ---- the exponential and 2 to p are no NaNs, if past emax the raised word is infinity's at most
+    pub exp2-raisable : (leb t j ≡ false → emax f < wholeOf w p .size → Rounded f z (wholeOf w p)
         → toBits f (raising w p) + wholeOf w p .size * hid f ≤ infinity f)
-        → isNan (exp2Of w p) ≡ false
-    unfolding exp2Of
-    exp2-number most = go (ltb ((one f - hid f) / B) m) (ltb→lt ((one f - hid f) / B) m) (nltb→le ((one f - hid f) / B) m)
+        → Raisable w p
+    unfolding exp2Of fractionOf
+    exp2-raisable most =
+        let r = go (ltb ((one f - hid f) / B) m) (ltb→lt ((one f - hid f) / B) m) (nltb→le ((one f - hid f) / B) m) in
+        record { exponential = r .0; answer = r .1 }
       where
         n : ℕ
         n = wholeOf w p .size
@@ -218,15 +222,20 @@ module _ (w : Width) (K : Known w) where
         e0 = exponentialOf w (partsOf w p)
 
         go : (c : Bool) → (T c → (one f - hid f) / B < m) → (T (not c) → m ≤ (one f - hid f) / B)
-            → isNan (cond c (raisedOf w (raising w p) (cond (leb t j) (whole w - n) (whole w + n))) (raisedOf w e0 (whole w))) ≡ false
+            → Number (exponentialOf w (partsOf w (cond c (record { hi = sub f (p .hi) (wholeOf w p .float); lo = p .lo }) p)))
+            × Number (cond c (raisedOf w (raising w p) (cond (leb t j) (whole w - n) (whole w + n))) (raisedOf w e0 (whole w)))
         go true a b =
             let R = near (lt-of-le-of-lt (le-of-eq (sym (K .half-high))) (a tt)) in
             let bt = reduced w K H L (whole-in R) (R .sgn) (subst (λ (y : ℕ). 2 * mag f z ≤ 2 * y + U f) (sym (R .siz)) (R .lo))
-            (subst (λ (y : ℕ). 2 * y ≤ 2 * mag f z + U f) (sym (R .siz)) (R .hi)) in
-            raised-number w K (raising w p) bt n (size-most n (R .hi)) (leb t j)
-            (λ e. choose (ltb (emax f) n) (λ c. most e (ltb→lt (emax f) n c) R) (λ c. under-top f (raising w p) bt n (nltb→le (emax f) n c)))
+            (subst (λ (y : ℕ). 2 * y ≤ 2 * mag f z + U f) (sym (R .siz)) (R .hi)) in (
+              finite-number (raising w p) (bt .num .finite),
+              raised-number w K (raising w p) bt n (size-most n (R .hi)) (leb t j)
+                  (λ e. choose (ltb (emax f) n) (λ c. most e (ltb→lt (emax f) n c) R) (λ c. under-top f (raising w p) bt n (nltb→le (emax f) n c))),
+            )
         go false a b =
             let S = small-z (le-trans (b tt) (le-of-eq (K .half-high))) in
-            let bt = exp-between w K p (hi-alone w K H L S) (weaken (2 ^ 41) L tt) S in
-            subst (λ (y : ℕ). isNan (raisedOf w e0 y) ≡ false) (add-zero (whole w))
-            (raised-number w K e0 bt 0 zero-le false (λ (e : false ≡ false). under-top f e0 bt 0 zero-le))
+            let bt = exp-between w K p (hi-alone w K H L S) (weaken (2 ^ 41) L tt) S in (
+              finite-number e0 (bt .num .finite),
+              subst (λ (y : ℕ). Number (raisedOf w e0 y)) (add-zero (whole w))
+                  (raised-number w K e0 bt 0 zero-le false (λ (e : false ≡ false). under-top f e0 bt 0 zero-le)),
+            )

@@ -7,10 +7,11 @@ use native.Mathlib.Omega.{arith}
 use mathlib.Core.Bool.{Bool, true, false, not, _||_, _&&_, cond}
 use lib.Dec.{T, leb, ltb, eqb, nltb→le, lit≤}
 use lib.Pow.{pow-pos}
-use lib.Ieee.{Float, Format, binary32, binary64, emax, low, hid, top, add, sub, lt, le, isNan, toBits}
+use lib.Ieee.{Float, Format, binary32, binary64, emax, low, hid, top, add, sub, lt, le, toBits}
 use Rattle.power.specs.Width.{Width, Two}
 use Rattle.power.specs.Places.{OVT}
-use Rattle.power.specs.Chain.{fateOf, exp2Of, con}
+use Rattle.power.specs.Chain.{fateOf, con}
+use Rattle.power.specs.NoNan.{Raisable}
 use Rattle.bounds.proofs.Formats.{infinity}
 use Rattle.bounds.proofs.Signed.{mag, plus, minus, R, parts, one-zero}
 use Rattle.bounds.proofs.RoundedSums.{Res, add-res}
@@ -20,7 +21,7 @@ use Rattle.chain.proofs.Known.{Known}
 use Rattle.chain.proofs.Sizes.{hid-pos, ones-most}
 use Rattle.chain.proofs.NearestWhole.{Rounded}
 use Rattle.chain.proofs.TwoTo.{wholeOf, raising}
-use Rattle.chain.proofs.Exp2.{Limited, range-below, exp2-number}
+use Rattle.chain.proofs.Exp2.{Limited, range-below, exp2-raisable}
 use Rattle.chain.proofs.Product.{Split}
 
 -- ---- |hi| from |lo| and |z|, where z is their rounded sum: off by half a unit in the 21st digit at most
@@ -133,8 +134,8 @@ module _ (w : Width) (K : Known w) (p : Two) where
         fin : (a u : ℕ) → a ≤ 2 ^ 6 * u → 2 ^ 30 * a ≤ 2 ^ 36 * u
         fin a u h = omega arith
 
-    -- so 2 to it is no NaN, if past emax the raised word is infinity's at most
-    pub within-number : (leb (top f / 2 ^ w .below) (x / 2 ^ w .below) ≡ false → emax f < wholeOf w p .size → Rounded f z (wholeOf w p)
+    -- so its exponential and 2 to it are no NaNs, if past emax the raised word is infinity's at most
+    pub within-raisable : (leb (top f / 2 ^ w .below) (x / 2 ^ w .below) ≡ false → emax f < wholeOf w p .size → Rounded f z (wholeOf w p)
         → Within f (U f) (2 ^ 42) (p .hi) → Within f (U f) (2 ^ 36) (p .lo) → toBits f (raising w p) + wholeOf w p .size * hid f ≤ infinity f)
-        → isNan (exp2Of w p) ≡ false
-    within-number k = exp2-number w K p hi-in lo-in (I .range) (λ a b c. k a b c hi-in lo-in)
+        → Raisable w p
+    within-raisable k = exp2-raisable w K p hi-in lo-in (I .range) (λ a b c. k a b c hi-in lo-in)

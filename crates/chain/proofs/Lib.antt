@@ -18,3 +18,4 @@ pub mod Far
 pub mod Reduced
 pub mod NearOne
 pub mod Open
+pub mod Numbers

@@ -49,8 +49,3 @@ signed-one-is binary32 true = refl
 signed-one-is binary32 false = refl
 signed-one-is binary64 true = refl
 signed-one-is binary64 false = refl
-
-pub one-is : (f : Format) → ofBits f (one f) ≡ fin false 1 (pos 0)
-unfolding ofBits
-one-is binary32 = refl
-one-is binary64 = refl

@@ -1,11 +1,11 @@
 -- Open powers: the float whose word an open power is fits its format and is no NaN, for every finite x whose size is not 1 and every finite y.
 -- Whichever logarithm is taken, its product with y is bounded, so the range test decides; and in range 2 to the product is no NaN. Assumes nothing.
 use mathlib.Core.Path.{_≡_, refl, sym, ap, _∙_}
-use mathlib.Core.Logic.{⊎-elim}
+use mathlib.Core.Logic.{inl, inr, ⊎-elim}
 use Prim.Native.Nat.{ℕ, _+_, _*_, _/_, _^_, _≤_, _<_}
 use native.Mathlib.Nat.{le-trans, le-of-eq, le-of-lt, lt-of-le-of-lt, lt-of-lt-of-le, mul-le-mul, mul-le-mul-right, le-of-mul-le-mul-right}
 use native.Mathlib.Omega.{arith}
-use mathlib.Core.Bool.{Bool, true, false, cond}
+use mathlib.Core.Bool.{Bool, true, false, cond, true≢false}
 use lib.Dec.{T, ltb, lit≤}
 use lib.Pow.{pow-pos}
 use lib.IntN.{pos}
@@ -14,17 +14,19 @@ use lib.Ieee.Fits.{mul-fits}
 use lib.Ieee.Bits.{toBits-lt, ofBits-toBits, nanBits-is, nanBits-above}
 use Rattle.words.specs.Format.{isNaN, ours}
 use Rattle.power.specs.Width.{Width, Two}
+use Rattle.power.specs.NoNan.{Raisable, Reaches}
+use Rattle.power.proofs.Nan.{one-is}
 use Rattle.power.specs.Places.{HUGE, TINY}
 use Rattle.power.specs.Chain.{openOf, logOf, productOf, nearOf, farOf, overOf, underOf, finishOf, hugeOf, exp2Of, signOf, con}
 use Rattle.bounds.proofs.Formats.{one, magnitude, negative, infinity}
 use Rattle.bounds.proofs.Signed.{mag, Num}
 use Rattle.bounds.proofs.Within.{U}
 use Rattle.bounds.proofs.Words.{word}
-use Rattle.chain.proofs.NoNan.{proper, proper-number, twice-number, signed-one-is, one-is}
+use Rattle.chain.proofs.NoNan.{proper, proper-number, twice-number, signed-one-is}
 use Rattle.chain.proofs.Known.{Known}
 use Rattle.chain.proofs.Sizes.{size-below, high-most}
 use Rattle.chain.proofs.Product.{Split, product}
-use Rattle.chain.proofs.InRange.{within-number, fate-by}
+use Rattle.chain.proofs.InRange.{Inside, within-raisable, fate-by}
 use Rattle.chain.proofs.Top.{at-top}
 use Rattle.chain.proofs.Far.{Log}
 use Rattle.chain.proofs.Reduced.{far}
@@ -74,20 +76,28 @@ module _ (w : Width) (K : Known w) where
   unfolding underOf
   under-sound a n = (twice-number f a (con w TINY) n (K .tiny), mul-fits f (mul f a (con w TINY)) (con w TINY))
 
+  -- ---- a product whose second part is small, in range
+  pub in-range : (p : Two) → Split f (p .hi) (p .lo) → Inside w K p → Raisable w p
+  in-range p S I = within-raisable w K p S I (λ a b c H L. at-top w K p S I a b c H L)
+
   -- ---- y times a logarithm, where neither is too large
-  Bounded : Float → Two → Type 0
+  unfoldable pub Bounded : Float → Two → Type 0
   Bounded y t = mag f y * mag f (t .hi) ≤ 2 ^ 110 * (U f * U f)
 
-  finish-sound : (y : Float) (t : Two) (s : Bool) → Num f y → Log f t → Bounded y t → Sound (finishOf w (productOf w y t) (signedOne s))
-  unfolding finishOf Bounded proper
+  pub split : (y : Float) (t : Two) → Num f y → Log f t → Bounded y t → Split f (productOf w y t .hi) (productOf w y t .lo)
+  unfolding Bounded
+  split y t n l b = product w K y (t .hi) (t .lo) n (l .hi-num) (l .lo-num) (l .small) (l .most) b
+
+  pub finish-sound : (y : Float) (t : Two) (s : Bool) → Num f y → Log f t → Bounded y t → Sound (finishOf w (productOf w y t) (signedOne s))
+  unfolding finishOf proper
   finish-sound y t s n l b =
       let p = productOf w y t in
-      let S : Split f (p .hi) (p .lo) = product w K y (t .hi) (t .lo) n (l .hi-num) (l .lo-num) (l .small) (l .most) b in
+      let S = split y t n l b in
       let e = exp2Of w p in
       fate-by w K p (λ (v : Float). Sound v) (overOf w (signedOne s)) (underOf w (signedOne s)) (mul f (signedOne s) e)
       (over-sound (signedOne s) (signed-one-number s))
       (under-sound (signedOne s) (signed-one-number s))
-      (λ I. (proper-number f (signedOne s) e tt (within-number w K p S I (λ a b c H L. at-top w K p S I a b c H L)), mul-fits f (signedOne s) e))
+      (λ I. (proper-number f (signedOne s) e tt (in-range p S I .answer), mul-fits f (signedOne s) e))
 
   module _ (m y : ℕ) (hm : m < infinity f) (ne : m ≡ one f → ⊥) (hy : magnitude f y < infinity f) where
     abbrev iy : ℕ
@@ -96,7 +106,7 @@ module _ (w : Width) (K : Known w) where
     abbrev yf : Float
     yf = ofBits (w .format) y
 
-    yn : Num f yf
+    pub yn : Num f yf
     yn = word f y hy .num
 
     y-below : (k : ℕ) → magnitude f y < (emax f + k) * hid f → mag f yf ≤ U f * 2 ^ k
@@ -139,6 +149,16 @@ module _ (w : Width) (K : Known w) where
             shift : (u p q r : ℕ) → p ≡ q * r → u * p * u ≡ q * (u * u) * r
             shift u p q r e = ap (λ (z : ℕ). u * z * u) e ∙ turn u q r
 
+    -- where the chain is walked to its end, its logarithm is bounded, and so is the product with y
+    by-size : (b : Bool) → ltb (w .huge) iy ≡ b → Reaches w (m / B) iy → Log f (cond b (nearOf w m) (farOf w m)) × Bounded yf (cond b (nearOf w m) (farOf w m))
+    by-size true p (inl e) = absurd (true≢false (sym p ∙ e))
+    by-size true p (inr h) = let b = near-x w K m ne (h .1) (h .2) in (near-log w K m b, near-bound b (h .0))
+    by-size false p r = (far w K m hm ne, far-bound p)
+
+    pub reached : Reaches w (m / B) iy → Log f (logOf w m iy) × Bounded yf (logOf w m iy)
+    unfolding logOf
+    reached r = by-size (ltb (w .huge) iy) refl r
+
     -- ---- past `must`, and in every branch
     huge-sound : (ix : ℕ) (dn : Bool) → Sound (hugeOf w ix dn)
     unfolding hugeOf
@@ -178,8 +198,8 @@ module _ (w : Width) (K : Known w) where
         go true p false q true r e t false = under-sound a (signed-one-number s)
         go true p false q false r true t true = under-sound a (signed-one-number s)
         go true p false q false r true t false = over-sound a (signed-one-number s)
-        go true p false q false r false t n = let b = near-x w K m ne r t in finish-sound yf (nearOf w m) s yn (near-log w K m b) (near-bound b q)
-        go false p c q d r e t n = finish-sound yf (farOf w m) s yn (far w K m hm ne) (far-bound p)
+        go true p false q false r false t n = let h = by-size true p (inr (q, r, t)) in finish-sound yf (nearOf w m) s yn (h .0) (h .1)
+        go false p c q d r e t n = let h = by-size false p (inl p) in finish-sound yf (farOf w m) s yn (h .0) (h .1)
 
     pub answer-number : (s : Bool) → isNan (answer w m y (signedOne s)) ≡ false
     answer-number s = answer-sound s .0

@@ -2,6 +2,7 @@ pub mod Numbers
 pub mod Words
 pub mod Cases
 pub mod Rules
+pub mod ByRule
 pub mod Limits
 pub mod HighWord
 pub mod NearestWhole

@@ -6,9 +6,13 @@ use mathlib.Core.Logic.{_⊎_, inl, inr}
 use native.Mathlib.Nat.{mod-eq-of-lt, mod-eq-sub-mod}
 use native.Mathlib.Omega.{arith}
 use lib.Dec.{ltb}
-use lib.Ieee.{Float, add, sub, lt, le, toBits, top}
+use lib.Ieee.{Float, nan, inf, fin, add, sub, lt, le, isNan, toBits, top}
 use borrow.Author.Tests.{lt-ltb, le-ltb, eq-eqb, ne-eqb, ltb-true, ltb-false}
 use Rattle.power.specs.declared.answer.Fate.the-variants.{Over, Under, Within}
+use Rattle.words.specs.Format.{quiet, ours}
+use Rattle.words.proofs.Words.{quiet-below}
+use Rattle.words.proofs.Floats.{toBits-nan}
+use Rattle.power.specs.NoNan.{Number}
 use Rattle.power.specs.Places.{OVT}
 use Rattle.power.specs.Width.{Width, Two}
 use Rattle.power.specs.Chain.{con, fateOf}
@@ -75,12 +79,29 @@ within-at w x y z n1 n2 j true false v a b p q r e = inl (ltb-false (w .large) j
 within-at w x y z n1 n2 j false u true a b p q r e = absurd (n2 e)
 within-at w x y z n1 n2 j false u false a b p q r e = inr (ltb-false j (top (w .format)) p, ltb-false (top (w .format) + w .small) j r)
 
-over-within : Over ≡ Within → ⊥
+pub over-within : Over ≡ Within → ⊥
 over-within e = let z : _≡_ {A = ℕ} 0 1 = cc in omega arith
 
-under-within : Under ≡ Within → ⊥
+pub under-within : Under ≡ Within → ⊥
 under-within e = let z : _≡_ {A = ℕ} 0 1 = cc in omega arith
 
 pub within : (w : Width) (p : Two) → fateOf w Over Under Within p ≡ Within → Inside w (toBits (w .format) (sum w p))
 unfolding fateOf
 within w p e = within-at w Over Under Within over-within under-within (toBits (w .format) (sum w p)) _ _ _ _ _ refl refl refl e
+
+-- a z within the limits is no NaN, whose word stands between them
+pub within-number : (w : Width) (p : Two) → w .large < quiet (ours (w .format)) → fateOf w Over Under Within p ≡ Within → Number (sum w p)
+unfolding isNan
+within-number w p l e = by (sum w p) (within w p e)
+  where
+    q : ℕ
+    q = quiet (ours (w .format))
+
+    between : (n : ℕ) → n ≡ q → Inside w n → ⊥
+    between n e (inl h) = omega (arith, e, h, l)
+    between n e (inr h) = omega (arith, e, h .0, quiet-below (ours (w .format)))
+
+    by : (z : Float) → Inside w (toBits (w .format) z) → Number z
+    by nan i = absurd (between (toBits (w .format) nan) (toBits-nan (w .format)) i)
+    by (inf s) i = refl
+    by (fin s m k) i = refl

@@ -1,16 +1,20 @@
 -- n = [z + 0.5] of a z with |z| > 0.5, as the code makes it of z's high word j: a half is added, and the digits below the point are dropped. Over every width. Assumes nothing.
 -- m digits stand below the exponent's field, whose value is d for 0.5 and d + 1 for 1; a z is below 2 ^ (r + 1).
 use Prim.Native.Nat.{ℕ, zero, suc, _+_, _-_, _*_, _/_, _%_, _^_, _<_, _≤_}
-use mathlib.Core.Path.{_≡_, refl, sym, ap, _∙_}
-use native.Mathlib.Nat.{div-one, mod-lt, add-sub-cancel, le-div-iff-mul-le, div-lt-iff-lt-mul}
+use mathlib.Core.Path.{_≡_, refl, sym, ap, subst, _∙_}
+use mathlib.Core.Bool.{not}
+use native.Mathlib.Nat.{le-trans, le-of-lt, lt-of-le-of-lt, mul-le-mul-right, div-one, mod-lt, add-sub-cancel, le-div-iff-mul-le, div-lt-iff-lt-mul}
 use native.Mathlib.Omega.{arith}
 use lib.Bits.{bitAnd, bitOr}
+use lib.Dec.{T}
 use lib.Pow.{shr-le, pow-pos, pow-add}
-use lib.Ieee.{Float, ofBits}
+use lib.Ieee.{Float, top, nanBits, ofBits}
+use Rattle.words.specs.Format.{infinity, ours}
+use Rattle.words.proofs.Floats.{word-number}
 use Rattle.power.specs.Width.{Width}
 use Rattle.power.specs.Chain.{nearestOf}
 use Rattle.power.proofs.HighWord.{High}
-use Rattle.power.proofs.Words.{size32, led, unmask, kept-lt}
+use Rattle.power.proofs.Words.{size32, led, unmask, kept-lt, chopped, shifted}
 
 -- the exponent's field, and j with the half added
 abbrev field : ℕ → ℕ → ℕ
@@ -70,3 +74,16 @@ module _ (m d r j : ℕ) (a : Known m d r j) (h : r + 1 ≤ m) where
   nearest-is g x e =
       let u = unmask m past 32 (sum m d j) (omega (arith, a)) (g .small) (a .fits) in
       rw (e, u, led m (sum m d j), g .sign, g .unit, g .digits, g .one, add-sub-cancel d 1) (simp size32)
+
+  -- that float's word is no NaN's: its field is far below the largest
+  pub nearest-number : {w : Width} → High w m d → m ≤ 31 → top (w .format) ≡ 2 ^ (31 + w .below) → (d + 3 + r) * 2 ^ m * 2 ^ w .below ≤ infinity (ours (w .format))
+      → T (not (nanBits (w .format) (bitAnd (sum m d j) ((2 ^ 32 - 1) - (2 ^ m - 1) / 2 ^ past) * 2 ^ w .below)))
+  nearest-number {w} g l t i =
+      let n = sum m d j in
+      let k = m - past in
+      let u = unmask m past 32 n (omega (arith, a)) (g .small) (a .fits) in
+      let all : 31 - k + k ≡ 31 = omega arith in
+      let low : n / 2 ^ k * 2 ^ k % 2 ^ 31 ≤ n % 2 ^ 31 = subst (λ (b : ℕ). n / 2 ^ k * 2 ^ k % 2 ^ b ≤ n % 2 ^ b) all (chopped (31 - k) k n) in
+      let field : n % 2 ^ 31 < (d + 3 + r) * 2 ^ m = subst (λ (x : ℕ). x < (d + 3 + r) * 2 ^ m) (size32 n) (div-lt-iff-lt-mul {x = bitAnd n 0x7fffffff} {y = d + 3 + r} (pow-pos m) .0 (a .to)) in
+      rw u (word-number (w .format) (n / 2 ^ k * 2 ^ k * 2 ^ w .below)
+      (rw (t, shifted 31 (w .below) (n / 2 ^ k * 2 ^ k)) (le-trans (mul-le-mul-right (2 ^ w .below) (le-of-lt (lt-of-le-of-lt low field))) i)))

@@ -2,9 +2,9 @@
 use Prim.Native.Nat.{ℕ, suc, _+_, _-_, _*_, _/_, _%_, _^_, _<_, _≤_}
 use mathlib.Core.Path.{_≡_, sym, ap, _∙_, subst}
 use lib.Bits.{bitAnd, bitOr, and-mask, and-high, or-shifted-r}
-use native.Mathlib.Nat.{mod-lt, lt-of-lt-of-le, lt-of-le-of-lt, div-mul-le-self, add-comm, mul-comm, one-mul}
+use native.Mathlib.Nat.{mul-mod-left, mod-lt, lt-of-lt-of-le, lt-of-le-of-lt, div-mul-le-self, add-comm, mul-comm, one-mul}
 use native.Mathlib.Omega.{arith}
-use lib.Pow.{shr-mod, shr-lt, pow-pos, pow-mono, ones-split, ones-lt, high}
+use lib.Pow.{mod-pow-add, shl-shr, shr-mod, shr-lt, pow-pos, pow-mono, ones-split, ones-lt, high}
 use Rattle.words.specs.Format.{format, top}
 use Rattle.words.specs.Rounding.{Held}
 use Rattle.words.proofs.Digits.{room}
@@ -50,6 +50,22 @@ unmask p k w n hk hw hn =
 pub kept-lt : (p m k d : ℕ) → m ≤ p → k ≤ m → d < 2 ^ (p + 1) → d / 2 ^ (p - k) < 2 ^ (m + 1)
 kept-lt p m k d hm hk hd =
     lt-of-lt-of-le (shr-lt (k + 1) (p - k) (subst (λ (n : ℕ). d < 2 ^ n) (omega arith) hd)) (pow-mono {i = k + 1} {j = m + 1} (omega arith))
+
+-- digits that are cut off, and digits that are put behind, of the lowest j + d
+pub chopped : (j d n : ℕ) → (n / 2 ^ d * 2 ^ d) % 2 ^ (j + d) ≤ n % 2 ^ (j + d)
+chopped j d n =
+    let a = mod-pow-add (n / 2 ^ d * 2 ^ d) j d in
+    let b = mod-pow-add n j d in
+    let c = ap (λ (q : ℕ). (q % 2 ^ j) * 2 ^ d) (shl-shr (n / 2 ^ d) d) in
+    let e = mul-mod-left (n / 2 ^ d) (2 ^ d) in
+    omega arith
+
+pub shifted : (j d n : ℕ) → (n * 2 ^ d) % 2 ^ (j + d) ≡ n % 2 ^ j * 2 ^ d
+shifted j d n =
+    let a = mod-pow-add (n * 2 ^ d) j d in
+    let c = ap (λ (q : ℕ). (q % 2 ^ j) * 2 ^ d) (shl-shr n d) in
+    let e = mul-mod-left n (2 ^ d) in
+    omega arith
 
 -- ---- a format that 64 bits hold
 

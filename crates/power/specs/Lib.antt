@@ -2,6 +2,7 @@ pub mod Numbers
 pub mod Sorting
 pub mod Width
 pub mod Chain
+pub mod NoNan
 pub mod Places
 pub mod Table32
 pub mod Table64

@@ -1,15 +1,16 @@
 // 2**(p_h + p_l), and whether it is within the format.
 ghost use mathlib.Core.Path.{_≡_};
 ghost use Prim.Native.Nat.{_<_, _≤_, _%_, _^_};
+ghost use lib.Ieee.{add, binary64};
 ghost use Rattle.power.specs.declared.answer.Fate.the-variants.{Over, Under, Within};
 ghost use Rattle.power.specs.Chain.{productOf, fateOf, nearestOf, partsOf, exponentialOf, raisedOf, exp2Of};
+ghost use Rattle.power.specs.NoNan.{Number, Raisable};
 ghost use Rattle.power.specs.Power.{double};
 ghost use Rattle.power_double.specs.Parts.{two, nearest};
 use super::halves::get_high_word;
 use super::halves::with_set_high_word;
 use super::leading::Pair;
 use super::leading::leading;
-use super::leading::nans;
 use super::table::LG2;
 use super::table::LG2_H;
 use super::table::LG2_L;
@@ -23,15 +24,12 @@ use super::table::constant;
 use power::answer::Fate;
 use power::unbiased::unbiased;
 use scale::double::scale64;
-use words::bridge::to_word64;
 
 // Split up y into y1 + y2 and compute p_h + p_l = (y1 + y2) * (t1 + t2).
 pub fn product(y: f64, t: Pair) -> Pair
+    requires { ⌜ Number y ⌝ }
     ensures { λ r. ⌜ two r ≡ productOf double y (two t) ⌝ }
 {
-    if y != y {
-        return nans(y);
-    }
     let y1 = leading(y);
     Pair {
         hi: y1 * t.hi,
@@ -41,13 +39,11 @@ pub fn product(y: f64, t: Pair) -> Pair
 
 // Overflow above 1024, underflow below -1075; at these z what z has lost decides.
 pub fn fate_of(p: Pair) -> Fate
+    requires { ⌜ Number (add binary64 (p .lo) (p .hi)) ⌝ }
     ensures { λ r. ⌜ r ≡ fateOf double Over Under Within (two p) ⌝ }
 {
     let z = p.lo + p.hi;
-    if z != z {
-        return Fate::Over;
-    }
-    let j = to_word64(z);
+    let j = f64::to_bits(z);
     if (j & 0x7fffffffffffffff) < 0x4090000000000000 {
         return Fate::Within;
     }
@@ -94,13 +90,10 @@ fn nearest_to(j: u32) -> Whole
 
 // z and w: (p_h + p_l) * log 2 in two parts.
 fn parts(p: Pair) -> Pair
+    requires { ⌜ Number (add binary64 (p .lo) (p .hi)) ⌝ }
     ensures { λ r. ⌜ two r ≡ partsOf double (two p) ⌝ }
 {
-    let s = p.lo + p.hi;
-    if s != s {
-        return nans(s);
-    }
-    let t = leading(s);
+    let t = leading(p.lo + p.hi);
     let u = t * constant(LG2_H);
     let v = (p.lo - (t - p.hi)) * constant(LG2) + t * constant(LG2_L);
     let z = u + v;
@@ -127,7 +120,7 @@ fn exponential(q: Pair) -> f64
 
 // z * 2^n, n being e - 4096: n goes to the exponent's field; a subnormal output is scaled.
 fn raised(z: f64, e: u32) -> f64
-    requires { ⌜ e < 8192 ⌝ }
+    requires { ⌜ (e < 8192) × Number z × Number (raisedOf double z e) ⌝ }
     ensures { λ r. ⌜ r ≡ raisedOf double z e ⌝ }
 {
     let j = std::num::wrapping_add_u32(get_high_word(z), e << 20);
@@ -143,6 +136,7 @@ fn raised(z: f64, e: u32) -> f64
 // 2**(p_h + p_l), where it is within the format.
 pub fn exp2(p: Pair) -> f64
     requires { ⌜ fateOf double Over Under Within (two p) ≡ Within ⌝ }
+    requires { ⌜ Raisable double (two p) ⌝ }
     ensures { λ r. ⌜ r ≡ exp2Of double (two p) ⌝ }
 {
     let j = get_high_word(p.lo + p.hi);

@@ -1,5 +1,7 @@
 // The open chain as a whole, and the power of every pair.
 ghost use mathlib.Core.Path.{_≡_};
+ghost use Rattle.words.specs.Format as Words;
+ghost use Rattle.power.specs.NoNan.{Finishable, OpenPair};
 ghost use Rattle.power.specs.Chain.{overOf, underOf, finishOf, signOf, hugeOf, openOf};
 ghost use Rattle.power.specs.Power.{double, pow64};
 ghost use Rattle.power_double.specs.Parts.{two};
@@ -29,8 +31,9 @@ fn under_flow(sn: f64) -> f64
     sn * constant(TINY) * constant(TINY)
 }
 
-// The chain's end: 2**(p_h + p_l) with the sign.
+// The chain's end: 2**(p_h + p_l) with the sign. Neither p_l + p_h nor, in range, 2 to it is a NaN.
 fn finish(p: Pair, sn: f64) -> f64
+    requires { ⌜ Finishable double (two p) ⌝ }
     ensures { λ r. ⌜ r ≡ finishOf double (two p) sn ⌝ }
 {
     let f = fate_of(p);
@@ -73,6 +76,7 @@ fn huge(ix: u32, down: bool) -> f64
 
 // An open power. Above |y| = 2^31 it over- or underflows, unless x is close to one.
 fn open(x: u64, y: u64, negative: bool) -> u64
+    requires { ⌜ OpenPair Words.binary64 x y ⌝ }
     ensures { λ r. ⌜ r ≡ openOf double x y negative ⌝ }
 {
     let sn = sign(negative);
@@ -96,7 +100,7 @@ fn open(x: u64, y: u64, negative: bool) -> u64
             return to_word64(over_flow(sn));
         }
     }
-    to_word64(finish(product(of_word64(y), log_of(ax, iy)), sn))
+    f64::to_bits(finish(product(of_word64(y), log_of(ax, iy)), sn))
 }
 
 // x to the y.

@@ -1,14 +1,15 @@
 // 2**(p_h + p_l), and whether it is within the format.
 ghost use mathlib.Core.Path.{_≡_};
 ghost use Prim.Native.Nat.{_<_, _≤_, _%_, _^_};
+ghost use lib.Ieee.{add, binary32};
 ghost use Rattle.power.specs.declared.answer.Fate.the-variants.{Over, Under, Within};
 ghost use Rattle.power.specs.Chain.{productOf, fateOf, nearestOf, partsOf, exponentialOf, raisedOf, exp2Of};
+ghost use Rattle.power.specs.NoNan.{Number, Raisable};
 ghost use Rattle.power.specs.Power.{single};
 ghost use Rattle.power_single.specs.Parts.{two, nearest};
 use super::leading::Pair;
 use super::leading::leading;
 use super::leading::leading_shorter;
-use super::leading::nans;
 use super::table::LG2;
 use super::table::LG2_H;
 use super::table::LG2_L;
@@ -22,16 +23,12 @@ use super::table::constant;
 use power::answer::Fate;
 use power::unbiased::unbiased;
 use scale::single::scale32;
-use words::bridge::of_word32;
-use words::bridge::to_word32;
 
 // Split up y into y1 + y2 and compute p_h + p_l = (y1 + y2) * (t1 + t2).
 pub fn product(y: f32, t: Pair) -> Pair
+    requires { ⌜ Number y ⌝ }
     ensures { λ r. ⌜ two r ≡ productOf single y (two t) ⌝ }
 {
-    if y != y {
-        return nans(y);
-    }
     let y1 = leading(y);
     Pair {
         hi: y1 * t.hi,
@@ -41,13 +38,11 @@ pub fn product(y: f32, t: Pair) -> Pair
 
 // Overflow above 128, underflow below -150; at these z what z has lost decides.
 pub fn fate_of(p: Pair) -> Fate
+    requires { ⌜ Number (add binary32 (p .lo) (p .hi)) ⌝ }
     ensures { λ r. ⌜ r ≡ fateOf single Over Under Within (two p) ⌝ }
 {
     let z = p.lo + p.hi;
-    if z != z {
-        return Fate::Over;
-    }
-    let j = to_word32(z);
+    let j = f32::to_bits(z);
     if (j & 0x7fffffff) < 0x43000000 {
         return Fate::Within;
     }
@@ -88,19 +83,16 @@ fn nearest_to(j: u32) -> Whole
     let k = ((n & 0x7fffffff) >> 23) - 127;
     Whole {
         size: ((n & 0x007fffff) | 0x00800000) >> (23 - k),
-        float: of_word32(n & !(0x007fffff >> k)),
+        float: f32::from_bits(n & !(0x007fffff >> k)),
     }
 }
 
 // z and w: (p_h + p_l) * log 2 in two parts.
 fn parts(p: Pair) -> Pair
+    requires { ⌜ Number (add binary32 (p .lo) (p .hi)) ⌝ }
     ensures { λ r. ⌜ two r ≡ partsOf single (two p) ⌝ }
 {
-    let s = p.lo + p.hi;
-    if s != s {
-        return nans(s);
-    }
-    let t = leading_shorter(s);
+    let t = leading_shorter(p.lo + p.hi);
     let u = t * constant(LG2_H);
     let v = (p.lo - (t - p.hi)) * constant(LG2) + t * constant(LG2_L);
     let z = u + v;
@@ -127,25 +119,26 @@ fn exponential(q: Pair) -> f32
 
 // z * 2^n, n being e - 512: n goes to the exponent's field; a subnormal output is scaled.
 fn raised(z: f32, e: u32) -> f32
-    requires { ⌜ e < 8192 ⌝ }
+    requires { ⌜ (e < 8192) × Number z × Number (raisedOf single z e) ⌝ }
     ensures { λ r. ⌜ r ≡ raisedOf single z e ⌝ }
 {
-    let j = std::num::wrapping_add_u32(to_word32(z), e << 23);
+    let j = std::num::wrapping_add_u32(f32::to_bits(z), e << 23);
     if j >= 0x80000000 {
         return scale32(z, unbiased(e, 512));
     }
     if j < 0x00800000 {
         return scale32(z, unbiased(e, 512));
     }
-    of_word32(j)
+    f32::from_bits(j)
 }
 
 // 2**(p_h + p_l), where it is within the format.
 pub fn exp2(p: Pair) -> f32
     requires { ⌜ fateOf single Over Under Within (two p) ≡ Within ⌝ }
+    requires { ⌜ Raisable single (two p) ⌝ }
     ensures { λ r. ⌜ r ≡ exp2Of single (two p) ⌝ }
 {
-    let j = to_word32(p.lo + p.hi);
+    let j = f32::to_bits(p.lo + p.hi);
     if (j & 0x7fffffff) > 0x3f000000 {
         let n = nearest_to(j);
         let q = Pair {

@@ -1,5 +1,7 @@
 // The open chain as a whole, and the power of every pair.
 ghost use mathlib.Core.Path.{_≡_};
+ghost use Rattle.words.specs.Format as Words;
+ghost use Rattle.power.specs.NoNan.{Finishable, OpenPair};
 ghost use Rattle.power.specs.Chain.{overOf, underOf, finishOf, signOf, openOf};
 ghost use Rattle.power.specs.Power.{single, pow32};
 ghost use Rattle.power_single.specs.Parts.{two};
@@ -29,8 +31,9 @@ fn under_flow(sn: f32) -> f32
     sn * constant(TINY) * constant(TINY)
 }
 
-// The chain's end: 2**(p_h + p_l) with the sign.
+// The chain's end: 2**(p_h + p_l) with the sign. Neither p_l + p_h nor, in range, 2 to it is a NaN.
 fn finish(p: Pair, sn: f32) -> f32
+    requires { ⌜ Finishable single (two p) ⌝ }
     ensures { λ r. ⌜ r ≡ finishOf single (two p) sn ⌝ }
 {
     let f = fate_of(p);
@@ -50,6 +53,7 @@ fn sign(negative: bool) -> f32
 
 // An open power. Above |y| = 2^27 it over- or underflows, unless x is close to one.
 fn open(x: u32, y: u32, negative: bool) -> u32
+    requires { ⌜ OpenPair Words.binary32 x y ⌝ }
     ensures { λ r. ⌜ r ≡ openOf single x y negative ⌝ }
 {
     let sn = sign(negative);
@@ -69,7 +73,7 @@ fn open(x: u32, y: u32, negative: bool) -> u32
             return to_word32(over_flow(sn));
         }
     }
-    to_word32(finish(product(of_word32(y), log_of(ix, iy)), sn))
+    f32::to_bits(finish(product(of_word32(y), log_of(ix, iy)), sn))
 }
 
 // x to the y.

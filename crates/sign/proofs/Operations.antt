@@ -1,37 +1,19 @@
 -- Rule 5's operations on x with the other sign: 1 / x changes its sign, x * x is the same.
-use mathlib.Core.Path.{_≡_, refl, sym, ap, _∙_}
-use Prim.Native.Nat.{ℕ, suc, _+_, _*_, _≤_}
+use mathlib.Core.Path.{_≡_, sym, ap, _∙_}
+use Prim.Native.Nat.{ℕ, _+_, _≤_}
 use native.Mathlib.Nat.{le-trans, le-of-eq, lt-of-le-of-lt, mod-eq-of-lt}
-use mathlib.Core.Bool.{Bool, true, false, cond}
-use lib.Dec.{eqb, eqb·suc-zero}
-use lib.IntN.{ℤ, pos}
-use lib.Ieee.{Float, nan, inf, fin, Format, top, up, down, unlike, round, mul, div, neg, isNan, ofBits, toBits}
+use mathlib.Core.Bool.{false}
+use lib.IntN.{pos}
+use lib.Ieee.{Float, fin, Format, top, mul, div, neg, isNan, ofBits, toBits}
 use lib.Ieee.Fits.{div-fits}
 use Rattle.words.specs.Format.{infinity, ours}
 use Rattle.words.proofs.Words.{infinity-below}
 use Rattle.power.specs.Sorting.{over, square}
 use Rattle.bounds.proofs.Words.{nan-not}
 use Rattle.bounds.proofs.RoundedProducts.{mul-swap}
-use Rattle.scale.proofs.Powers.{round-number}
-use Rattle.chain.proofs.NoNan.{one-is}
+use Rattle.power.proofs.Nan.{one-is, div-number}
 use Rattle.sign.specs.Sign.{flipped}
 use Rattle.sign.proofs.Negated.{neg-mul, neg-div, neg-neg, neg-bits, neg-word}
-
-div-number : (f : Format) (s : Bool) (m : ℕ) (e : ℤ) (y : Float) → isNan y ≡ false → isNan (div f (fin s (suc m) e) y) ≡ false
-unfolding div isNan
-div-number f s m e nan h = h
-div-number f s m e (inf t) h = refl
-div-number f s m e (fin t n d) h = go (eqb n 0)
-  where
-    a : ℕ
-    a = suc m * up e * down d
-
-    c : ℕ
-    c = n * up d * down e
-
-    go : (b : Bool) → isNan (cond b (cond (eqb (suc m) 0) nan (inf (unlike s t))) (round f (unlike s t) a c)) ≡ false
-    go true = ap (λ (b : Bool). isNan (cond b nan (inf (unlike s t)))) (eqb·suc-zero m)
-    go false = round-number f (unlike s t) a c
 
 pub over-flips : (f : Format) (m : ℕ) → m ≤ infinity (ours f) → over f (top f + m) ≡ flipped (ours f) (over f m)
 unfolding over

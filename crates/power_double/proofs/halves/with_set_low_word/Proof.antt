@@ -6,13 +6,7 @@ use lib.Dec.{T}
 use lib.Bits.{bitAnd, bitOr, or-shifted}
 use lib.Ieee.{Float, binary64, ofBits, toBits, fits, nanBits}
 use lib.Ieee.Bits.{toBits-lt}
-use Rattle.words.proofs.Floats.{equal-number}
-use Rattle.power.proofs.Words.{cut}
-use Rattle.words.proofs.Floats.{equal-number}
-use Rattle.power.proofs.Words.{cut}
-use Rattle.words.proofs.Floats.{equal-number}
-use Rattle.power.proofs.Words.{cut}
-use Rattle.words.proofs.Floats.{equal-number}
+use Rattle.power.proofs.Nan.{is-number}
 use Rattle.power.proofs.Words.{cut}
 use Rattle.power_double.proofs.halves.with_set_low_word.Statement.{statement}
 use Rattle.power_double.proofs.halves.with_set_low_word.Tie as tie
@@ -21,7 +15,7 @@ low-set : (f : Float) (lo : ℕ) → T (fits binary64 f) → lo < 2 ^ 32 → bit
 low-set f lo h l = ap (λ (n : ℕ). bitOr n lo) (cut 32 32 (toBits binary64 f) (toBits-lt binary64 f h)) ∙ or-shifted (toBits binary64 f / 2 ^ 32) 32 lo l
 
 float-to-bits-result : tie.Need-float-to-bits-result
-float-to-bits-result c = equal-number (c .args .f) (c .pre .0)
+float-to-bits-result c = is-number (c .args .f) (c .pre .0)
 
 float-from-bits-result : tie.Need-float-from-bits-result
 float-from-bits-result c = subst⁻¹ (λ (n : ℕ). T (not (nanBits binary64 n))) (low-set (c .args .f) (c .args .lo) (subst T (sym (c .good .0 .1)) tt) (c .fits .lo .fits)) (c .pre .1)

@@ -6,12 +6,6 @@ use lib.Dec.{T}
 use lib.Ieee.{binary64, ofBits, toBits}
 use Rattle.power.specs.Chain.{chop}
 use Rattle.power.proofs.Nan.{leading-number}
-use Rattle.power.specs.Chain.{chop}
-use Rattle.power.proofs.Nan.{leading-number}
-use Rattle.power.specs.Chain.{chop}
-use Rattle.power.proofs.Nan.{leading-number}
-use Rattle.power.specs.Chain.{chop}
-use Rattle.power.proofs.Nan.{leading-number}
 use Rattle.power_double.proofs.leading.leading.Statement.{statement}
 use Rattle.power_double.proofs.leading.leading.Tie as tie
 

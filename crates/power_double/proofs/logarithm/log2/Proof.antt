@@ -14,7 +14,10 @@ constant-requires-3 : tie.Need-constant-requires-3
 constant-requires-3 c κs = search needs
 
 sum-requires : tie.Need-sum-requires
-sum-requires c κs = search needs
+unfolding log2Of
+sum-requires c κs =
+    let b = c .before .before .before in
+    simp (c .before .constant3 .ensures, b .constant2 .ensures, b .before .before .constant .ensures) (b .before .before .before .pre)
 
 returns : tie.Need-returns
 unfolding log2Of

@@ -1,33 +1,21 @@
--- `power_double::logarithm::logarithm` meets its contract: a NaN gives NaNs, and else the operations are the definition's, in its order. Assumes nothing.
-use mathlib.Core.Path.{_≡_, _∙_}
-use lib.Ieee.{Float, nan}
-use Rattle.power.specs.Chain.{splitOf, logarithmOf}
+-- `power_double::logarithm::logarithm` meets its contract: 3 + s_h * s_h + r is a number, and the operations are the definition's, in its order. Assumes nothing.
+use Rattle.power.specs.Chain.{logarithmOf}
 use Rattle.power.specs.Power.{double}
-use Rattle.power.proofs.Nan.{differs, add-nan-l, sub-nan-l, sub-nan-r, mul-nan-l, mul-nan-r, short64, split-nan}
-use borrow.Author.Needs.{needs}
+use Rattle.power.proofs.Nan.{short64, logarithm-t}
+use Rattle.power_double.specs.Parts.{three}
 use Rattle.power_double.proofs.logarithm.logarithm.Statement.{statement}
 use Rattle.power_double.proofs.logarithm.logarithm.Tie as tie
 
-split : (v : Float) → splitOf double nan v ≡ record { hi = nan; lo = nan }
-split v = split-nan double v short64
+leading-requires : tie.Need-leading-requires
+leading-requires c κs = logarithm-t double short64 (three (c .before .args .q)) (c .before .args .r) (c .before .pre)
 
-nans-requires : tie.Need-nans-requires
-nans-requires c κs = search needs
+split-requires : tie.Need-split-requires
+unfolding logarithmOf
+split-requires c κs = simp (c .before .before .before .leading .ensures) (c .before .before .before .before .before .pre)
 
 returns : tie.Need-returns
 unfolding logarithmOf
-returns c = c .nans .ensures ∙ simp (differs _ (c .before .if1 .taken), short64, add-nan-l, sub-nan-l, sub-nan-r, mul-nan-l, mul-nan-r, split)
-
-leading-requires : tie.Need-leading-requires
-leading-requires c κs = search needs
-
-split-requires : tie.Need-split-requires
-split-requires c κs = search needs
-
-returns-2 : tie.Need-returns-2
-unfolding logarithmOf
-returns-2 c = cc
+returns c = cc
 
 pub logarithm-spec : {M : Type 1} → statement M
-logarithm-spec =
-    tie.close (tie.spec nans-requires returns leading-requires split-requires returns-2)
+logarithm-spec = tie.close (tie.spec leading-requires split-requires returns)

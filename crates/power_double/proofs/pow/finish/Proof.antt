@@ -8,7 +8,9 @@ use Rattle.power_double.proofs.pow.finish.Statement.{statement}
 use Rattle.power_double.proofs.pow.finish.Tie as tie
 
 exp2-requires : tie.Need-exp2-requires
-exp2-requires c κs = sym (c .before .before .fate-of .ensures) ∙ c .enum-told3 .given .1
+exp2-requires c κs =
+    let e = sym (c .before .before .fate-of .ensures) ∙ c .enum-told3 .given .1 in
+    (e, c .before .before .before .pre .raisable e)
 
 returns : tie.Need-returns
 returns c = finish-ended double _ _ (c .before .before .before .fate-of .ensures) (c .before .enum-told .given .1) (c .over-flow .ensures)
@@ -23,7 +25,7 @@ pub finish-spec : {M : Type 1} → statement M
 finish-spec =
     tie.close
     (tie.spec
-    (λ c κs. search needs)
+    (λ c κs. c .pre .sum)
     (λ c. search needs)
     (λ c κs. search needs)
     (λ c. search needs)

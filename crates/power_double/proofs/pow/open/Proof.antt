@@ -1,8 +1,15 @@
 -- `power_double::pow::open` meets its contract: each way is the definition's. Assumes nothing.
-use mathlib.Core.Logic.{⊎-elim}
+use Prim.Native.Nat.{_/_, _%_, _^_}
+use mathlib.Core.Logic.{inl, inr, ⊎-elim}
 use native.Mathlib.Omega.{arith}
 use borrow.Author.Tests.{lt-ltb, le-ltb, le-leb, lt-leb}
-use Rattle.power.specs.Chain.{openOf}
+use lib.Ieee.{binary64, ofBits}
+use Rattle.power.specs.Chain.{logOf, openOf}
+use Rattle.power.specs.NoNan.{Reaches, Walked}
+use Rattle.power.specs.Power.{double}
+use Rattle.power.proofs.Nan.{is-number}
+use Rattle.chain.proofs.Widths.{known64}
+use Rattle.chain.proofs.Numbers.{walked}
 use Rattle.power.proofs.Words.{size64}
 use borrow.Author.Needs.{needs}
 use Rattle.power_double.proofs.pow.open.Statement.{statement}
@@ -70,25 +77,39 @@ returns-5 c = simp (c .to-word645 .ensures, c .before .over-flow2 .ensures, c .b
 of-word64-requires : tie.Need-of-word64-requires
 of-word64-requires c κs = search needs
 
+-- the numbers on the way to the chain's end
+way : (c : tie.After-of-word64) → let a = c .before .before .before .args in Walked double (ofBits binary64 (a .y)) (logOf double (a .x % 2 ^ 63) (a .y % 2 ^ 63 / 2 ^ 32)) (a .negative)
+way c =
+    let a = c .before .before .before in
+    walked double known64 (a .args .x) (a .args .y) (a .args .negative) (a .pre) (reaches (c .before))
+  where
+    reaches : (c : tie.Joined1) → Reaches double (c .before .before .args .x % 2 ^ 63 / 2 ^ 32) (c .before .before .args .y % 2 ^ 63 / 2 ^ 32)
+    reaches c = ⊎-elim
+        (λ w. inr (le-ltb _ _ (rw size64 at (w .1 .left)), le-ltb _ _ (rw size64 at (w .2 .left)), le-ltb _ _ (rw size64 at (w .3 .left))))
+        (λ w. inl (le-ltb _ _ (rw size64 at (w .left))))
+        (c .if1 .came)
+
 log-of-requires : tie.Need-log-of-requires
-log-of-requires c κs = search needs
+log-of-requires c κs = simp size64 (way c .logarithm .1)
 
 product-requires : tie.Need-product-requires
-product-requires c κs = search needs
+product-requires c κs = simp (c .before .of-word64 .ensures) (way (c .before) .exponent)
 
 finish-requires : tie.Need-finish-requires
-finish-requires c κs = search needs
+finish-requires c κs = simp (c .product .ensures, c .before .log-of .ensures, c .before .before .of-word64 .ensures, size64) (way (c .before .before) .finish)
 
-to-word64-requires-6 : tie.Need-to-word64-requires-6
-to-word64-requires-6 c κs = search needs
+float-to-bits-result : tie.Need-float-to-bits-result
+float-to-bits-result c =
+    let b = c .before .before in
+    is-number _ (simp (c .finish .ensures, c .before .product .ensures, b .log-of .ensures, b .before .of-word64 .ensures, b .before .before .before .sign .ensures, size64) (way (b .before) .answer))
 
 returns-6 : tie.Need-returns-6
 unfolding openOf
 returns-6 c =
     ⊎-elim
-    (λ w. simp (c .to-word646 .ensures, c .before .finish .ensures, c .before .before .product .ensures, c .before .before .before .log-of .ensures, c .before .before .before .before .of-word64 .ensures, c .before .before .before .before .before .before .sign .ensures, size64, lt-ltb _ _ (rw size64 at (w .0 .taken)), le-ltb _ _ (rw size64 at (w .1 .left)), le-ltb _ _ (rw size64 at (w .2 .left)), le-ltb _ _ (rw size64 at (w .3 .left))))
-    (λ w. simp (c .to-word646 .ensures, c .before .finish .ensures, c .before .before .product .ensures, c .before .before .before .log-of .ensures, c .before .before .before .before .of-word64 .ensures, c .before .before .before .before .before .before .sign .ensures, size64, le-ltb _ _ (rw size64 at (w .left))))
-    (c .before .before .before .before .before .if1 .came)
+    (λ w. simp (c .finish .ensures, c .before .product .ensures, c .before .before .log-of .ensures, c .before .before .before .of-word64 .ensures, c .before .before .before .before .before .sign .ensures, size64, lt-ltb _ _ (rw size64 at (w .0 .taken)), le-ltb _ _ (rw size64 at (w .1 .left)), le-ltb _ _ (rw size64 at (w .2 .left)), le-ltb _ _ (rw size64 at (w .3 .left))))
+    (λ w. simp (c .finish .ensures, c .before .product .ensures, c .before .before .log-of .ensures, c .before .before .before .of-word64 .ensures, c .before .before .before .before .before .sign .ensures, size64, le-ltb _ _ (rw size64 at (w .left))))
+    (c .before .before .before .before .if1 .came)
 
 pub open-spec : {M : Type 1} → statement M
 open-spec =
@@ -116,5 +137,5 @@ open-spec =
     log-of-requires
     product-requires
     finish-requires
-    to-word64-requires-6
+    float-to-bits-result
     returns-6)

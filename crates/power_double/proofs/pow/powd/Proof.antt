@@ -1,6 +1,9 @@
 -- `power_double::pow::powd` meets its contract: a settled pair is the sorting's, and an open one the chain's. Assumes nothing.
 use mathlib.Core.Path.{sym, ap, _∙_}
+use lib.Ieee.{binary64}
 use Rattle.power.specs.Power.{double}
+use Rattle.power.specs.Sorting.{told}
+use Rattle.power.proofs.ByRule.{open-pair}
 use Rattle.power.proofs.Cases.{chosen, pow-chosen}
 use borrow.Author.Needs.{needs}
 use Rattle.power_double.proofs.pow.powd.Statement.{statement}
@@ -16,7 +19,9 @@ enum-known-s-2 : tie.Need-enum-known-s-2
 enum-known-s-2 c = search needs
 
 open-requires : tie.Need-open-requires
-open-requires c κs = search needs
+open-requires c κs =
+    let a = c .before .before .before in
+    open-pair binary64 (a .before .args .x) (a .before .args .y) _ (ap told (sym (c .before .s2 .given .1)) ∙ a .sort-powd .ensures)
 
 returns : tie.Need-returns
 returns c = ap (chosen double (c .before .before .before .before .args .x) (c .before .before .before .before .args .y)) (sym (c .before .s .given .1)) ∙ pow-chosen double (c .before .before .before .before .args .x) (c .before .before .before .before .args .y) (c .before .before .before .sort-powd .result) (c .before .before .before .sort-powd .ensures)

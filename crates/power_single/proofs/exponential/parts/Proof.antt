@@ -1,17 +1,8 @@
--- `power_single::exponential::parts` meets its contract: a NaN gives NaNs, and else the operations are the definition's, in its order. Assumes nothing.
-use mathlib.Core.Path.{_∙_}
+-- `power_single::exponential::parts` meets its contract: the operations are the definition's, in its order. Assumes nothing.
 use Rattle.power.specs.Chain.{partsOf}
-use Rattle.power.proofs.Nan.{differs, add-nan-l, sub-nan-l, sub-nan-r, mul-nan-l, shorter32}
 use borrow.Author.Needs.{needs}
 use Rattle.power_single.proofs.exponential.parts.Statement.{statement}
 use Rattle.power_single.proofs.exponential.parts.Tie as tie
-
-nans-requires : tie.Need-nans-requires
-nans-requires c κs = search needs
-
-returns : tie.Need-returns
-unfolding partsOf
-returns c = c .nans .ensures ∙ simp (differs _ (c .before .if1 .taken), shorter32, add-nan-l, sub-nan-l, sub-nan-r, mul-nan-l)
 
 leading-shorter-requires : tie.Need-leading-shorter-requires
 leading-shorter-requires c κs = search needs
@@ -25,18 +16,16 @@ constant-requires-2 c κs = search needs
 constant-requires-3 : tie.Need-constant-requires-3
 constant-requires-3 c κs = search needs
 
-returns-2 : tie.Need-returns-2
+returns : tie.Need-returns
 unfolding partsOf
-returns-2 c = cc
+returns c = cc
 
 pub parts-spec : {M : Type 1} → statement M
 parts-spec =
     tie.close
     (tie.spec
-    nans-requires
-    returns
     leading-shorter-requires
     constant-requires
     constant-requires-2
     constant-requires-3
-    returns-2)
+    returns)

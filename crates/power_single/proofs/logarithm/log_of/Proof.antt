@@ -1,15 +1,16 @@
 -- `power_single::logarithm::log_of` meets its contract: each way is the definition's. Assumes nothing.
 use borrow.Author.Tests.{lt-ltb, le-ltb}
 use Rattle.power.specs.Chain.{logOf}
-use borrow.Author.Needs.{needs}
 use Rattle.power_single.proofs.logarithm.log_of.Statement.{statement}
 use Rattle.power_single.proofs.logarithm.log_of.Tie as tie
 
 near-requires : tie.Need-near-requires
-near-requires c κs = search needs
+unfolding logOf
+near-requires c κs = simp (lt-ltb _ _ (c .if1 .taken)) at (c .before .pre)
 
 far-requires : tie.Need-far-requires
-far-requires c κs = search needs
+unfolding logOf
+far-requires c κs = simp (le-ltb _ _ (c .if1 .left)) at (c .before .pre)
 
 returns : tie.Need-returns
 unfolding logOf

@@ -20,7 +20,10 @@ constant-requires-4 : tie.Need-constant-requires-4
 constant-requires-4 c κs = search needs
 
 split-requires : tie.Need-split-requires
-split-requires c κs = search needs
+unfolding nearOf
+split-requires c κs =
+    let b = c .before .before .before in
+    simp (c .constant4 .ensures, c .before .constant3 .ensures, c .before .before .constant2 .ensures, b .constant .ensures, b .before .of-word32 .ensures) (b .before .before .pre)
 
 returns : tie.Need-returns
 unfolding nearOf

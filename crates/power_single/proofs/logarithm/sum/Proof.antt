@@ -1,24 +1,16 @@
--- `power_single::logarithm::sum` meets its contract: a NaN gives NaNs, and else the operations are the definition's, in its order. Assumes nothing.
-use mathlib.Core.Path.{_∙_}
+-- `power_single::logarithm::sum` meets its contract: the sum is a number, and the operations are the definition's, in its order. Assumes nothing.
 use Rattle.power.specs.Chain.{sumOf}
-use Rattle.power.proofs.Nan.{differs, sub-nan-l, sub-nan-r, short32}
-use borrow.Author.Needs.{needs}
+use Rattle.power.specs.Power.{single}
+use Rattle.power.proofs.Nan.{short32, sum-first}
 use Rattle.power_single.proofs.logarithm.sum.Statement.{statement}
 use Rattle.power_single.proofs.logarithm.sum.Tie as tie
 
-nans-requires : tie.Need-nans-requires
-nans-requires c κs = search needs
+leading-requires : tie.Need-leading-requires
+leading-requires c κs = sum-first single short32 (c .args .z-h) (c .args .z-l) (c .args .dp-h) (c .args .t) (c .pre)
 
 returns : tie.Need-returns
 unfolding sumOf
-returns c = c .nans .ensures ∙ simp (differs _ (c .before .if1 .taken), short32, sub-nan-l, sub-nan-r)
-
-leading-requires : tie.Need-leading-requires
-leading-requires c κs = search needs
-
-returns-2 : tie.Need-returns-2
-unfolding sumOf
-returns-2 c = cc
+returns c = simp (c .leading .ensures)
 
 pub sum-spec : {M : Type 1} → statement M
-sum-spec = tie.close (tie.spec nans-requires returns leading-requires returns-2)
+sum-spec = tie.close (tie.spec leading-requires returns)

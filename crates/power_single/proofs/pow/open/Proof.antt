@@ -2,12 +2,18 @@
 use Prim.Native.Nat.{ℕ, _%_, _^_}
 use mathlib.Core.Path.{_≡_}
 use mathlib.Core.Bool.{false}
-use mathlib.Core.Logic.{⊎-elim}
+use mathlib.Core.Logic.{inl, inr, ⊎-elim}
 use native.Mathlib.Nat.{div-one}
 use native.Mathlib.Omega.{arith}
 use lib.Dec.{ltb}
 use borrow.Author.Tests.{lt-ltb, le-ltb, le-leb, lt-leb}
-use Rattle.power.specs.Chain.{openOf}
+use lib.Ieee.{binary32, ofBits}
+use Rattle.power.specs.Chain.{logOf, openOf}
+use Rattle.power.specs.NoNan.{Reaches, Walked}
+use Rattle.power.specs.Power.{single}
+use Rattle.power.proofs.Nan.{is-number}
+use Rattle.chain.proofs.Widths.{known32}
+use Rattle.chain.proofs.Numbers.{walked}
 use Rattle.power.proofs.Words.{size32}
 use borrow.Author.Needs.{needs}
 use Rattle.power_single.proofs.pow.open.Statement.{statement}
@@ -63,25 +69,39 @@ returns-4 c = simp (c .to-word324 .ensures, c .before .over-flow2 .ensures, c .b
 of-word32-requires : tie.Need-of-word32-requires
 of-word32-requires c κs = search needs
 
+-- the numbers on the way to the chain's end
+way : (c : tie.After-of-word32) → let a = c .before .before .before .args in Walked single (ofBits binary32 (a .y)) (logOf single (a .x % 2 ^ 31) (a .y % 2 ^ 31)) (a .negative)
+way c =
+    let a = c .before .before .before in
+    simp div-one at (walked single known32 (a .args .x) (a .args .y) (a .args .negative) (a .pre) (simp div-one (reaches (c .before))))
+  where
+    reaches : (c : tie.Joined1) → Reaches single (c .before .before .args .x % 2 ^ 31) (c .before .before .args .y % 2 ^ 31)
+    reaches c = ⊎-elim
+        (λ w. inr (none (c .before .before .args .y), le-ltb _ _ (rw size32 at (w .1 .left)), le-ltb _ _ (rw size32 at (w .2 .left))))
+        (λ w. inl (le-ltb _ _ (rw size32 at (w .left))))
+        (c .if1 .came)
+
 log-of-requires : tie.Need-log-of-requires
-log-of-requires c κs = search needs
+log-of-requires c κs = simp size32 (way c .logarithm .1)
 
 product-requires : tie.Need-product-requires
-product-requires c κs = search needs
+product-requires c κs = simp (c .before .of-word32 .ensures) (way (c .before) .exponent)
 
 finish-requires : tie.Need-finish-requires
-finish-requires c κs = search needs
+finish-requires c κs = simp (c .product .ensures, c .before .log-of .ensures, c .before .before .of-word32 .ensures, size32) (way (c .before .before) .finish)
 
-to-word32-requires-5 : tie.Need-to-word32-requires-5
-to-word32-requires-5 c κs = search needs
+float-to-bits-result : tie.Need-float-to-bits-result
+float-to-bits-result c =
+    let b = c .before .before in
+    is-number _ (simp (c .finish .ensures, c .before .product .ensures, b .log-of .ensures, b .before .of-word32 .ensures, b .before .before .before .sign .ensures, size32) (way (b .before) .answer))
 
 returns-5 : tie.Need-returns-5
 unfolding openOf
 returns-5 c =
     ⊎-elim
-    (λ w. simp (c .to-word325 .ensures, c .before .finish .ensures, c .before .before .product .ensures, c .before .before .before .log-of .ensures, c .before .before .before .before .of-word32 .ensures, c .before .before .before .before .before .before .sign .ensures, size32, div-one, lt-ltb _ _ (rw size32 at (w .0 .taken)), none (c .before .before .before .before .before .before .before .args .y), le-ltb _ _ (rw size32 at (w .1 .left)), le-ltb _ _ (rw size32 at (w .2 .left))))
-    (λ w. simp (c .to-word325 .ensures, c .before .finish .ensures, c .before .before .product .ensures, c .before .before .before .log-of .ensures, c .before .before .before .before .of-word32 .ensures, c .before .before .before .before .before .before .sign .ensures, size32, div-one, le-ltb _ _ (rw size32 at (w .left))))
-    (c .before .before .before .before .before .if1 .came)
+    (λ w. simp (c .finish .ensures, c .before .product .ensures, c .before .before .log-of .ensures, c .before .before .before .of-word32 .ensures, c .before .before .before .before .before .sign .ensures, size32, div-one, lt-ltb _ _ (rw size32 at (w .0 .taken)), none (c .before .before .before .before .before .before .args .y), le-ltb _ _ (rw size32 at (w .1 .left)), le-ltb _ _ (rw size32 at (w .2 .left))))
+    (λ w. simp (c .finish .ensures, c .before .product .ensures, c .before .before .log-of .ensures, c .before .before .before .of-word32 .ensures, c .before .before .before .before .before .sign .ensures, size32, div-one, le-ltb _ _ (rw size32 at (w .left))))
+    (c .before .before .before .before .if1 .came)
 
 pub open-spec : {M : Type 1} → statement M
 open-spec =
@@ -104,5 +124,5 @@ open-spec =
     log-of-requires
     product-requires
     finish-requires
-    to-word32-requires-5
+    float-to-bits-result
     returns-5)

@@ -3,6 +3,8 @@ use mathlib.Core.Path.{sym, ap, _∙_}
 use lib.Ieee.{binary32}
 use Rattle.power.specs.Power.{single}
 use Rattle.power.proofs.Cases.{chosen, pow-chosen}
+use Rattle.power.specs.Sorting.{told}
+use Rattle.power.proofs.ByRule.{open-pair}
 use Rattle.power.proofs.Fits.{settled-word}
 use borrow.Author.Needs.{needs}
 use Rattle.power_single.proofs.pow.powf.Statement.{statement}
@@ -21,7 +23,9 @@ enum-known-s-2 : tie.Need-enum-known-s-2
 enum-known-s-2 c = search needs
 
 open-requires : tie.Need-open-requires
-open-requires c κs = search needs
+open-requires c κs =
+    let a = c .before .before .before in
+    open-pair binary32 (a .before .args .x) (a .before .args .y) _ (ap told (sym (c .before .s2 .given .1)) ∙ a .sort-powf .ensures)
 
 returns : tie.Need-returns
 returns c = ap (chosen single (c .before .before .before .before .args .x) (c .before .before .before .before .args .y)) (sym (c .before .s .given .1)) ∙ pow-chosen single (c .before .before .before .before .args .x) (c .before .before .before .before .args .y) (c .before .before .before .sort-powf .result) (c .before .before .before .sort-powf .ensures)
