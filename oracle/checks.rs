@@ -14,13 +14,22 @@ pub struct Tally {
 }
 
 impl Tally {
-    /// Counts an answer of the port and gives it back, altered where a fault is planted.
-    fn taken(&mut self, word: u64) -> u64 {
-        self.results += 1;
-        word ^ u64::from(self.results == self.plant)
+    /// Counts an answer of the port and gives it back, its last bit altered where a fault is planted.
+    pub fn taken(&mut self, word: u64) -> u64 {
+        self.taken_at(word, 1)
     }
 
-    fn held(&mut self, good: bool, say: impl FnOnce() -> String) {
+    /// The same where not every altered bit is a fault: `bit` is one that is.
+    pub fn taken_at(&mut self, word: u64, bit: u64) -> u64 {
+        self.results += 1;
+        if self.results == self.plant {
+            word ^ bit
+        } else {
+            word
+        }
+    }
+
+    pub fn held(&mut self, good: bool, say: impl FnOnce() -> String) {
         if !good {
             self.differ += 1;
             if self.first.is_none() {
@@ -188,19 +197,19 @@ fn opened(x: f64, y: f64) -> Option<bool> {
 }
 
 /// A difference in full: the operands, what the others answer, what the port answers.
-fn told(name: &str, operands: &str, others: &str, port: &str) -> String {
+pub fn told(name: &str, operands: &str, others: &str, port: &str) -> String {
     format!("{name} of {operands}{others}{}", line("the port", port))
 }
 
-fn line(name: &str, answer: &str) -> String {
+pub fn line(name: &str, answer: &str) -> String {
     format!("\n    {name:26} {answer}")
 }
 
-fn answers(op: &Operation, x: u64, y: u64) -> String {
+pub fn answers(op: &Operation, x: u64, y: u64) -> String {
     op.sides.iter().map(|(name, side)| line(name, &shown(op.format, side(x, y)))).collect()
 }
 
-fn operands(op: &Operation, x: u64, y: u64) -> String {
+pub fn operands(op: &Operation, x: u64, y: u64) -> String {
     let second = match op.name {
         "scalbnf" | "scalbnd" => format!(", n = {}", y as i32),
         "powf" | "powd" => format!(", y = {}", shown(op.format, y)),
@@ -209,7 +218,7 @@ fn operands(op: &Operation, x: u64, y: u64) -> String {
     format!("x = {}{second}", shown(op.format, x))
 }
 
-fn shown(f: Format, word: u64) -> String {
+pub fn shown(f: Format, word: u64) -> String {
     let digits = if f.p == 24 { 8 } else { 16 };
     format!("0x{word:0digits$x} ({:e})", f.value(word))
 }

@@ -1,15 +1,18 @@
 //! The comparison: compare MODE SEED [NAME...], as ./compare starts it. MODE is quick, full or planted; the
-//! names choose some functions. Exit status 0: nothing differs, or every planted fault was caught.
+//! names choose some functions and facts. Exit status 0: nothing differs, or every planted fault was caught.
 
 mod checks;
 mod draws;
+mod facts;
 mod operations;
 mod parts;
+mod pieces;
 mod sides;
 mod words;
 
 use checks::Tally;
-use parts::{parts, Part, Scale};
+use parts::parts;
+use pieces::{Part, Scale};
 use std::io::{stderr, IsTerminal, Write};
 use std::process::exit;
 use std::sync::atomic::{AtomicU64, Ordering::Relaxed};
@@ -29,7 +32,7 @@ fn main() {
         names.dedup();
         names.sort_unstable();
         names.dedup();
-        fail(&format!("there is no function {name}; there are {}", names.join(" ")));
+        fail(&format!("there is no function or fact {name}; there are {}", names.join(" ")));
     }
     all.retain(|part| chosen.is_empty() || chosen.iter().any(|name| part.name == name));
     exit(if mode == "planted" { planted(&all, seed) } else { compared(&all, mode, seed) });

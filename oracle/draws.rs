@@ -50,6 +50,36 @@ pub fn root(f: Format, d: &mut Draw) -> u64 {
     }
 }
 
+/// Two operands of the root, no NaN and neither below 0, the second not below the first: two words, one and the
+/// next word, or one and a word not far above. A zero has either sign.
+pub fn ordered(f: Format, d: &mut Draw) -> (u64, u64) {
+    let ends = [0, 1, f.hid() - 1, f.hid(), f.infinity() - 1, f.infinity()];
+    let any = |d: &mut Draw| if d.below(16) == 0 { d.of(&ends) } else { number(f, root(f, d)) };
+    let x = any(d);
+    let y = match d.below(4) {
+        0 | 1 => number(f, x + 1),
+        2 => number(f, x + d.sized(f.p)),
+        _ => any(d),
+    };
+    let mut signed = |word: u64| if word == 0 { d.below(2) * f.sign() } else { word };
+    (signed(x.min(y)), signed(x.max(y)))
+}
+
+/// A word without its sign, a NaN as infinity.
+fn number(f: Format, word: u64) -> u64 {
+    f.size(word).min(f.infinity())
+}
+
+/// A positive normal number: an operand of the root, or the fraction of one with a drawn exponent.
+pub fn normal(f: Format, d: &mut Draw) -> u64 {
+    let x = f.size(root(f, d));
+    if f.is_normal(x) {
+        x
+    } else {
+        f.hid() * (1 + d.below(2 * f.emax as u64)) + x % f.hid()
+    }
+}
+
 /// An operand of scaling and its n: any n, one near a step or a clamp, or one that brings the result to the
 /// edge of the subnormal numbers or of infinity.
 pub fn scaling(f: Format, d: &mut Draw) -> (u64, u64) {
@@ -121,6 +151,52 @@ pub fn power(f: Format, d: &mut Draw) -> (u64, u64) {
     let whole = f.value(y).trunc() == f.value(y);
     let turned = d.below(if whole { 2 } else { 16 }) == 0;
     (if turned { x ^ f.sign() } else { x }, y)
+}
+
+/// The operands of a power, x no NaN and y finite and whole: x as for other powers, any, or 0, 1 or infinity; y
+/// such that the power is finite, small, of every size, at the powers of two at which parity and the branches
+/// are decided, or beyond 2^p, where every y is even.
+pub fn whole_power(f: Format, d: &mut Draw) -> (u64, u64) {
+    let x = match d.below(8) {
+        0 => d.of(&[0, f.one(), f.infinity()]),
+        1 | 2 => operand(f, d),
+        _ => base(f, d),
+    };
+    let x = number(f, x) ^ d.below(2) * f.sign();
+    let (p, largest) = (f.p as i32, f.value(f.infinity() - 1));
+    let y = match d.below(8) {
+        0 => f.word(d.within(0, 3) as f64),
+        1..=3 => {
+            let z = d.real(-f64::from(f.emax + p), f64::from(f.emax + 9));
+            f.word((z / f.value(f.size(x)).log2()).round().clamp(-largest, largest))
+        }
+        4 | 5 => f.word(d.sized(f.p) as f64),
+        6 => {
+            let e = d.of(&[p - 1, p, 24, 31, 32, 53, 63, 64]);
+            if e < p {
+                f.word((1u64 << e) as f64 + d.within(-3, 3) as f64)
+            } else {
+                d.near(f, f.power(e), 3)
+            }
+        }
+        _ => f.power(d.within(f.p.into(), f.emax.into()) as i32) + d.below(f.hid()),
+    };
+    (x, y ^ d.below(2) * f.sign())
+}
+
+/// The operands of a power, each with either sign, whole or not, and one in eight a special word or any.
+pub fn any_power(f: Format, d: &mut Draw) -> (u64, u64) {
+    let (x, y) = if d.below(2) == 0 { power(f, d) } else { whole_power(f, d) };
+    let special = [0, f.one(), f.power(-1), f.infinity(), f.infinity() + 1, f.quiet(), f.sign() - 1];
+    let mut replaced = |word: u64| {
+        let chosen = match d.below(16) {
+            0 => d.of(&special),
+            1 => operand(f, d),
+            _ => word,
+        };
+        chosen ^ d.below(2) * f.sign()
+    };
+    (replaced(x), replaced(y))
 }
 
 /// A positive x: any, near 1, at the ends of the chain's intervals, subnormal, of moderate size, or whole.

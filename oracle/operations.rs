@@ -38,6 +38,15 @@ pub struct Width {
     pub partial: (&'static str, fn(u64, u32) -> Partial),
     pub sort: (&'static str, fn(u64, u64) -> Sorted),
     pub batches: [Batched; 3],
+    pub facts: Facts,
+}
+
+/// The names of the facts: roots keep the order, roots by powers of four, the sign of a power, its NaN.
+pub struct Facts {
+    pub order: &'static str,
+    pub fours: &'static str,
+    pub signs: &'static str,
+    pub nan: &'static str,
 }
 
 macro_rules! batched {
@@ -136,6 +145,12 @@ macro_rules! width {
                     batched!($scalbns, $c_scalbns, &SCALBN, $word, i32),
                     batched!($pows, $c_pows, &POW, $word, $word),
                 ],
+                facts: Facts {
+                    order: concat!("order_", stringify!($sqrt)),
+                    fours: concat!("fours_", stringify!($sqrt)),
+                    signs: concat!("signs_", stringify!($pow)),
+                    nan: concat!("nan_", stringify!($pow)),
+                },
             }
         };
     };

@@ -1,30 +1,14 @@
-//! The parts of the comparison: for each function of the port, which operands, how many, in which pieces.
+//! The parts of the comparison: for each function of the port and each fact, which operands and how many.
 
-use crate::checks::Tally;
 use crate::draws;
-use crate::operations::{Operation, Width, D, F};
+use crate::operations::{Width, D, F};
+use crate::pieces::{drawing, every, listing, Part, Scale};
 use crate::sides::face::BATCH_MOST;
-use crate::words::{listed, steps, thresholds, Draw, Format};
-
-/// Pieces of work, each a function of its number alone. `label` is what stands in the printed table.
-pub struct Part {
-    pub name: &'static str,
-    pub label: String,
-    pub pieces: u64,
-    pub run: Box<dyn Fn(u64, &mut Tally) + Sync>,
-}
-
-/// How much is compared, and the seed of what is drawn.
-#[derive(Clone, Copy)]
-pub struct Scale {
-    pub seed: u64,
-    pub full: bool,
-}
+use crate::words::{listed, steps, thresholds, wholes, Draw, Format};
+use std::collections::BTreeSet;
 
 /// The n by which all f32 words are scaled: no step, one and two steps, each upward and downward.
 const CHOSEN: [i32; 6] = [-278, -150, -24, 1, 128, 255];
-
-const PIECE: u64 = 1 << 16;
 
 pub fn parts(scale: Scale) -> Vec<Part> {
     let mut all = Vec::new();
@@ -37,7 +21,7 @@ pub fn parts(scale: Scale) -> Vec<Part> {
                 t.single(op, draws::root(f, d), 0)
             });
             if single && scale.full {
-                every(&mut all, op, 0, "every word".into());
+                every(&mut all, scale, op.name, "every word", 0..1 << 32, 1, |x, t| t.single(op, x, 0));
             }
         }
         let sparse = if scale.full || single { 1 } else { 32 };
@@ -51,7 +35,10 @@ pub fn parts(scale: Scale) -> Vec<Part> {
         });
         if single && scale.full {
             for n in CHOSEN {
-                every(&mut all, w.scalbn, n as u32 as u64, format!("every word, n = {n}"));
+                let label = format!("every word, n = {n}");
+                every(&mut all, scale, w.scalbn.name, &label, 0..1 << 32, 1, move |x, t| {
+                    t.single(w.scalbn, x, n as u32 as u64)
+                });
             }
         }
         powers(&mut all, scale, w);
@@ -64,6 +51,9 @@ pub fn parts(scale: Scale) -> Vec<Part> {
             t.partial(w, draws::root(f, d), k)
         });
         batches(&mut all, scale, w);
+        order_of_roots(&mut all, scale, w);
+        roots_by_fours(&mut all, scale, w);
+        facts_of_powers(&mut all, scale, w);
     }
     all
 }
@@ -121,68 +111,74 @@ fn batches(all: &mut Vec<Part>, scale: Scale, w: &'static Width) {
     }
 }
 
-/// Each x of a list with each y of another, or one drawn pair of every `sparse` of them.
-fn listing(
-    all: &mut Vec<Part>,
-    scale: Scale,
-    name: &'static str,
-    label: &str,
-    xs: Vec<u64>,
-    ys: Vec<u64>,
-    sparse: u64,
-    each: impl Fn(u64, u64, &mut Tally) + Sync + 'static,
-) {
-    let pairs = xs.len() as u64 * ys.len() as u64;
-    let label = if sparse == 1 { label.into() } else { format!("{label}, 1 in {sparse}") };
-    all.push(Part {
-        name,
-        label,
-        pieces: pairs.div_ceil(sparse).div_ceil(PIECE),
-        run: Box::new(move |piece, t| {
-            let mut d = Draw::new(scale.seed, name, piece);
-            for i in piece * PIECE..(piece + 1) * PIECE {
-                let pair = (i * sparse + d.below(sparse)) as usize;
-                if let Some(&x) = xs.get(pair / ys.len()) {
-                    each(x, ys[pair % ys.len()], t)
-                }
-            }
-        }),
+/// Roots keep the order of their operands. All words of an f32, each beside the next, settle it for every pair.
+fn order_of_roots(all: &mut Vec<Part>, scale: Scale, w: &'static Width) {
+    let (f, name) = (w.sqrt.format, w.facts.order);
+    let single = f.p == 24;
+    let sparse = if scale.full || single { 1 } else { 32 };
+    let words: Vec<u64> = listed(f).into_iter().filter(|&x| f.value(x) >= 0.).collect();
+    listing(all, scale, name, "listed words crossed", words.clone(), words, sparse, move |x, y, t| {
+        if x != y && f.value(x) <= f.value(y) {
+            t.ordered(w, x, y)
+        }
     });
+    drawing(all, scale, name, 24, if single { 24 } else { 30 }, move |d, t| {
+        let (x, y) = draws::ordered(f, d);
+        t.ordered(w, x, y)
+    });
+    if single {
+        let sparse = if scale.full { 1 } else { 128 };
+        every(all, scale, name, "every word", 0..f.infinity(), sparse, |x, t| t.ordered(w, x, x + 1));
+    }
 }
 
-/// 2^quick drawn operands, or 2^full.
-fn drawing(
-    all: &mut Vec<Part>,
-    scale: Scale,
-    name: &'static str,
-    quick: u32,
-    full: u32,
-    each: impl Fn(&mut Draw, &mut Tally) + Sync + 'static,
-) {
-    let bits = if scale.full { full } else { quick };
-    all.push(Part {
-        name,
-        label: "drawn".into(),
-        pieces: (1 << bits) / PIECE,
-        run: Box::new(move |piece, t| {
-            let mut d = Draw::new(scale.seed, name, piece);
-            for _ in 0..PIECE {
-                each(&mut d, t)
-            }
-        }),
+/// Roots go by 2^k where their operands go by 4^k. All normal numbers of an f32, each beside that in [1, 4)
+/// and this beside that in [4, 16), settle it for every k.
+fn roots_by_fours(all: &mut Vec<Part>, scale: Scale, w: &'static Width) {
+    let (f, name) = (w.sqrt.format, w.facts.fours);
+    let single = f.p == 24;
+    let (sparse, most) = (if scale.full || single { 1 } else { 32 }, i64::from(f.emax));
+    let words = listed(f).into_iter().filter(|&x| f.is_normal(x)).collect();
+    let ks = (1 - most..most).filter(|&k| k != 0).map(|k| k as u64).collect();
+    listing(all, scale, name, "listed words, each k", words, ks, sparse, move |x, k, t| {
+        if f.fours(x).contains(&(k as i64)) {
+            t.by_four(w, x, k as i64)
+        }
     });
+    drawing(all, scale, name, 24, 20, move |d, t| {
+        let x = draws::normal(f, d);
+        let ks = f.fours(x);
+        if scale.full {
+            ks.filter(|&k| k != 0).for_each(|k| t.by_four(w, x, k))
+        } else {
+            let k = d.within(*ks.start(), ks.end() - 1);
+            t.by_four(w, x, if k < 0 { k } else { k + 1 })
+        }
+    });
+    if single {
+        let sparse = if scale.full { 1 } else { 128 };
+        every(all, scale, name, "every normal word", f.hid()..f.infinity(), sparse, move |x, t| {
+            let e = f.whole(x).1;
+            t.by_four(w, x, if e == 0 { 1 } else { -i64::from(e) })
+        });
+    }
 }
 
-/// All 2^32 words of an f32 function with one second operand.
-fn every(all: &mut Vec<Part>, op: &'static Operation, y: u64, label: String) {
-    all.push(Part {
-        name: op.name,
-        label,
-        pieces: (1 << 32) / PIECE,
-        run: Box::new(move |piece, t| {
-            for x in piece * PIECE..(piece + 1) * PIECE {
-                t.single(op, x, y)
-            }
-        }),
+/// The sign of x in a power of a whole y, and where a power is a NaN.
+fn facts_of_powers(all: &mut Vec<Part>, scale: Scale, w: &'static Width) {
+    let (f, signs, nan) = (w.pow.format, w.facts.signs, w.facts.nan);
+    let sparse = if scale.full || f.p == 24 { 1 } else { 32 };
+    let edges = thresholds(f);
+    let plus: BTreeSet<u64> = listed(f).into_iter().chain(edges.clone()).filter(|&x| x <= f.infinity()).collect();
+    let plus = plus.into_iter().collect();
+    listing(all, scale, signs, "listed words, each y", plus, wholes(f), sparse, |x, y, t| t.turned(w, x, y));
+    drawing(all, scale, signs, 24, 28, move |d, t| {
+        let (x, y) = draws::whole_power(f, d);
+        t.turned(w, x, y)
+    });
+    listing(all, scale, nan, "thresholds crossed", edges.clone(), edges, 1, |x, y, t| t.number(w, x, y));
+    drawing(all, scale, nan, 23, 28, move |d, t| {
+        let (x, y) = draws::any_power(f, d);
+        t.number(w, x, y)
     });
 }

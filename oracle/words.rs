@@ -1,6 +1,8 @@
 //! Formats, drawn numbers, and the words that the comparison favours. A word of either width is a u64, an
 //! f32 word in the low half.
 
+use std::ops::RangeInclusive;
+
 /// p digits, the leading one included, and the largest exponent.
 #[derive(Clone, Copy)]
 pub struct Format {
@@ -52,17 +54,45 @@ impl Format {
     pub fn fit(self, word: u64) -> u64 {
         word & (self.sign() | self.sign() - 1)
     }
+    /// A word without its sign bit.
+    pub const fn size(self, word: u64) -> u64 {
+        word & !self.sign()
+    }
+    pub fn is_nan(self, word: u64) -> bool {
+        self.size(word) > self.infinity()
+    }
+    /// Whether a word is a positive normal number.
+    pub fn is_normal(self, word: u64) -> bool {
+        (self.hid()..self.infinity()).contains(&word)
+    }
     /// Whether the port's word is the answer that another side has: any NaN of theirs is the quiet one here.
     pub fn same(self, port: u64, theirs: u64) -> bool {
-        port == if theirs & !self.sign() > self.infinity() { self.quiet() } else { theirs }
+        port == if self.is_nan(theirs) { self.quiet() } else { theirs }
+    }
+    /// The size of a finite word as digits·2^e, the digits a whole number below 2^p.
+    fn digits(self, word: u64) -> (u64, i32) {
+        let (field, fraction) = ((self.size(word) / self.hid()) as i32, word % self.hid());
+        (if field == 0 { fraction } else { fraction + self.hid() }, field.max(1) - self.emax + 1 - self.p as i32)
     }
     /// A positive finite word as W and E of document 01: W·2^(1-p) in [1, 4) times 4^E.
     pub fn whole(self, word: u64) -> (u64, i32) {
-        let (field, fraction) = ((word / self.hid()) as i32, word % self.hid());
-        let digits = if field == 0 { fraction } else { fraction + self.hid() };
+        let (digits, last) = self.digits(word);
         let shift = digits.leading_zeros() - (64 - self.p);
-        let e = field.max(1) - self.emax - shift as i32;
+        let e = last + self.p as i32 - 1 - shift as i32;
         (digits << shift << (e & 1), e >> 1)
+    }
+    /// Whether a word is a finite whole number, and then whether it is odd. The power of two of its last digit
+    /// that is a one tells both; no float is compared and nothing is cast to a narrower width.
+    pub fn odd(self, word: u64) -> Option<bool> {
+        let (digits, last) = self.digits(word);
+        let place = last + digits.trailing_zeros() as i32;
+        let finite = self.size(word) < self.infinity();
+        (finite && (digits == 0 || place >= 0)).then_some(digits != 0 && place == 0)
+    }
+    /// The k for which 4^k times a positive normal number is one too.
+    pub fn fours(self, word: u64) -> RangeInclusive<i64> {
+        let field = (word / self.hid()) as i64;
+        (1 - field) / 2..=(2 * i64::from(self.emax) - field) / 2
     }
 }
 
@@ -130,6 +160,19 @@ pub fn thresholds(f: Format) -> Vec<u64> {
     let ends = [3, f.hid(), f.infinity() - 4, f.infinity() + 3, f.quiet(), f.sign() - 4];
     let around = cuts.into_iter().chain(powers.map(|e| f.power(e))).chain(limits).chain(ends);
     signed(f, around.flat_map(|w| (0..7).map(move |i| w + i - 3)))
+}
+
+/// Finite whole numbers: zeros, every power of two with the whole numbers beside it, or from 2^p on with the
+/// words beside it, the largest; both signs.
+pub fn wholes(f: Format) -> Vec<u64> {
+    let beside = |e: i32| {
+        if e < f.p as i32 {
+            [-1., 0., 1.].map(|by| f.word((1u64 << e) as f64 + by))
+        } else {
+            [f.power(e) - 1, f.power(e), f.power(e) + 1]
+        }
+    };
+    signed(f, (0..=f.emax).flat_map(beside).chain([f.infinity() - 1]))
 }
 
 fn signed(f: Format, words: impl Iterator<Item = u64>) -> Vec<u64> {
