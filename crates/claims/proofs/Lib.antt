@@ -7,3 +7,4 @@ pub mod Products
 pub mod Streams
 pub mod AnnexF
 pub mod Planners
+pub mod NanPowers

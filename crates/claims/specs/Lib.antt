@@ -4,3 +4,4 @@ pub mod Rounds
 pub mod Operations
 pub mod AnnexF
 pub mod Planners
+pub mod NanPowers

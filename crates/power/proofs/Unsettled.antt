@@ -13,7 +13,7 @@ use Rattle.words.proofs.Words.{infinity-below}
 use Rattle.power.specs.Sorting.{twoWord, halfWord, sorted, sorted5, sorted6, sorted7}
 use Rattle.power.specs.Plain.{plainBase, plainExponent, plain}
 
-both : (a b : Bool) → a && b ≡ true → (a ≡ true) × (b ≡ true)
+pub both : (a b : Bool) → a && b ≡ true → (a ≡ true) × (b ≡ true)
 both true b e = (refl, e)
 both false b e = absurd (subst T (sym e) tt)
 

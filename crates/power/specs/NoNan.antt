@@ -1,4 +1,4 @@
--- What the code of the open chain asks of its numbers, so that it need not test them: none is a NaN. For the proofs of the code; no promise cites it. Definitions only.
+-- What the code of the open chain asks of its numbers, so that it need not test them: none is a NaN. The claim that no NaN arises is said in the same words. Definitions only.
 use Prim.Native.Nat.{ℕ, _-_, _/_, _%_, _^_, _<_}
 use mathlib.Core.Path.{_≡_}
 use mathlib.Core.Bool.{Bool, false, cond}

@@ -19,7 +19,7 @@ pub fn leading(x: f64) -> f64
     with_set_low_word(x, 0)
 }
 
-// u + v in two parts, the first a leading part. They are numbers, so u + v is one.
+// u + v in two parts, the first a leading part. The second is no NaN, so u + v is none.
 pub fn split(u: f64, v: f64) -> Pair
     requires { ⌜ Number (splitOf double u v .lo) ⌝ }
     ensures { λ r. ⌜ two r ≡ splitOf double u v ⌝ }

@@ -26,7 +26,7 @@ pub fn leading_shorter(x: f32) -> f32
     f32::from_bits(f32::to_bits(x) & 0xffff8000)
 }
 
-// u + v in two parts, the first a leading part. They are numbers, so u + v is one.
+// u + v in two parts, the first a leading part. The second is no NaN, so u + v is none.
 pub fn split(u: f32, v: f32) -> Pair
     requires { ⌜ Number (splitOf single u v .lo) ⌝ }
     ensures { λ r. ⌜ two r ≡ splitOf single u v ⌝ }

@@ -1,8 +1,8 @@
 // log2(ax) = t1 + t2. A leading part is taken of numbers only: each function asks that the second part
 // of its answer is no NaN, so none of the numbers that it is made of is one.
 ghost use mathlib.Core.Path.{_≡_};
-ghost use Rattle.power.specs.NoNan.{Number};
 ghost use Rattle.power.specs.Chain.{quotientOf, seriesOf, logarithmOf, sumOf, log2Of, farOf, nearOf, logOf};
+ghost use Rattle.power.specs.NoNan.{Number};
 ghost use Rattle.power.specs.Power.{single};
 ghost use Rattle.power_single.specs.Parts.{two, three};
 use super::leading::Pair;
