@@ -38,7 +38,9 @@ below c = let j = c .before .get-high-word .result in le-ltb 0x3fe00000 (j % 2 ^
 -- ---- |z| is more than 0.5
 
 -- n, with its sign, above the whole turn
-e-is : (c : tie.Joined2) → c .if2 .e ≡ cond (leb 0x80000000 (c .before .before .before .before .before .get-high-word .result)) (4096 - c .before .before .before .nearest-to .result .size) (4096 + c .before .before .before .nearest-to .result .size)
+e-is : (c : tie.Joined2) → let b = c .before .before .before in
+    let n = b .nearest-to .result .size in
+    c .if2 .e ≡ cond (leb 0x80000000 (b .before .before .get-high-word .result)) (4096 - n) (4096 + n)
 e-is c = ⊎-elim (λ w. simp (le-leb _ _ (w .0 .taken)) (w .2)) (λ w. simp (lt-leb _ _ (w .0 .left)) (w .2)) (c .if2 .came)
 
 e-small : (c : tie.Joined2) → c .if2 .e < 8192
@@ -101,7 +103,8 @@ unfolding exp2Of
 returns c =
     let b = c .before .before .before in
     let a = b .before .before .before in
-    simp (← a .before .before .get-high-word .ensures, above (a .before), c .raised .ensures, c .before .exponential .ensures, c .before .before .parts .ensures, ← a .nearest-to .ensures .0, e-is b)
+    let h = a .before .before .get-high-word .ensures in
+    simp (← h, above (a .before), c .raised .ensures, c .before .exponential .ensures, c .before .before .parts .ensures, ← a .nearest-to .ensures .0, e-is b)
 
 returns-2 : tie.Need-returns-2
 unfolding exp2Of

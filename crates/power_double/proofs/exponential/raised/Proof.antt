@@ -17,13 +17,15 @@ returns : tie.Need-returns
 returns c =
     let b = c .before .before .before in
     let a = b .before .before in
-    c .scale64 .ensures ∙ raised-past high64 (a .args .z) (a .args .e) (b .before .get-high-word .ensures) (b .wrapping-add-u32 .ensures) (rw (c .before .unbiased .ensures) (unbiased-back 4096 (a .args .e) (omega arith) (a .pre .0))) (c .before .before .if1 .taken)
+    c .scale64 .ensures ∙ raised-past high64 (a .args .z) (a .args .e) (b .before .get-high-word .ensures) (b .wrapping-add-u32 .ensures)
+    (rw (c .before .unbiased .ensures) (unbiased-back 4096 (a .args .e) (omega arith) (a .pre .0))) (c .before .before .if1 .taken)
 
 returns-2 : tie.Need-returns-2
 returns-2 c =
     let b = c .before .before .before .before in
     let a = b .before .before in
-    c .scale642 .ensures ∙ raised-below high64 (a .args .z) (a .args .e) (b .before .get-high-word .ensures) (b .wrapping-add-u32 .ensures) (rw (c .before .unbiased2 .ensures) (unbiased-back 4096 (a .args .e) (omega arith) (a .pre .0))) (c .before .before .before .if1 .left) (c .before .before .if2 .taken)
+    c .scale642 .ensures ∙ raised-below high64 (a .args .z) (a .args .e) (b .before .get-high-word .ensures) (b .wrapping-add-u32 .ensures)
+    (rw (c .before .unbiased2 .ensures) (unbiased-back 4096 (a .args .e) (omega arith) (a .pre .0))) (c .before .before .before .if1 .left) (c .before .before .if2 .taken)
 
 placed : (c : tie.Else2) → let a = c .before .before .before .before .args in
     ofBits binary64 (c .before .before .wrapping-add-u32 .result * 2 ^ 32 + toBits binary64 (a .z) % 2 ^ 32) ≡ raisedOf double (a .z) (a .e)

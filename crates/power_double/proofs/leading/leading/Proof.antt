@@ -10,7 +10,9 @@ use Rattle.power_double.proofs.leading.leading.Statement.{statement}
 use Rattle.power_double.proofs.leading.leading.Tie as tie
 
 with-set-low-word-requires : tie.Need-with-set-low-word-requires
-with-set-low-word-requires c κs = (c .pre, rw (add-zero (toBits binary64 (c .args .x) / 2 ^ 32 * 2 ^ 32)) (leading-number binary64 31 32 (c .args .x) refl (subst T (sym (c .good .0 .1)) tt) (c .pre)))
+with-set-low-word-requires c κs =
+    let x = c .args .x in
+    (c .pre, rw (add-zero (toBits binary64 x / 2 ^ 32 * 2 ^ 32)) (leading-number binary64 31 32 x refl (subst T (sym (c .good .0 .1)) tt) (c .pre)))
 
 returns : tie.Need-returns
 unfolding chop

@@ -1,7 +1,10 @@
 -- `power_double::pow::open` meets its contract: each way is the definition's. Assumes nothing.
 use Prim.Native.Nat.{_/_, _%_, _^_}
 use mathlib.Core.Logic.{inl, inr, ⊎-elim}
+use mathlib.Core.Path.{_≡_}
+use mathlib.Core.Bool.{true}
 use native.Mathlib.Omega.{arith}
+use lib.Dec.{ltb}
 use borrow.Author.Tests.{lt-ltb, le-ltb, le-leb, lt-leb}
 use lib.Ieee.{binary64, ofBits}
 use Rattle.power.specs.Chain.{logOf, openOf}
@@ -24,6 +27,10 @@ cast-ix c = rw size64 (omega arith)
 cast-iy : tie.Need-cast-iy
 cast-iy c = rw size64 (omega arith)
 
+-- the test on |y|, as the definition asks it
+above : (c : tie.Then1) → ltb 0x41e00000 (c .before .before .args .y % 2 ^ 63 / 2 ^ 32) ≡ true
+above c = let y = c .before .before .args .y in lt-ltb 0x41e00000 (y % 2 ^ 63 / 2 ^ 32) (omega (arith, size64 y, c .if1 .taken))
+
 huge-requires : tie.Need-huge-requires
 huge-requires c κs = search needs
 
@@ -32,7 +39,9 @@ to-word64-requires c κs = search needs
 
 returns : tie.Need-returns
 unfolding openOf
-returns c = simp (c .to-word64 .ensures, c .before .huge .ensures, lt-ltb _ _ (rw size64 at (c .before .before .before .if1 .taken)), lt-ltb _ _ (rw size64 at (c .before .before .if2 .taken)), size64)
+returns c =
+    let d = c .before .before in
+    simp (c .to-word64 .ensures, c .before .huge .ensures, above (d .before), lt-ltb _ _ (rw size64 at (d .if2 .taken)), size64)
 
 over-flow-requires : tie.Need-over-flow-requires
 over-flow-requires c κs = search needs
@@ -40,9 +49,21 @@ over-flow-requires c κs = search needs
 to-word64-requires-2 : tie.Need-to-word64-requires-2
 to-word64-requires-2 c κs = search needs
 
+-- x below 1: by the sign of y
 returns-2 : tie.Need-returns-2
 unfolding openOf
-returns-2 c = simp (c .to-word642 .ensures, c .before .over-flow .ensures, c .before .before .before .before .before .before .sign .ensures, lt-ltb _ _ (rw size64 at (c .before .before .before .before .before .if1 .taken)), le-ltb _ _ (rw size64 at (c .before .before .before .before .if2 .left)), lt-ltb _ _ (rw size64 at (c .before .before .before .if3 .taken)), le-leb _ _ (c .before .before .if4 .taken))
+returns-2 c =
+    let d = c .before .before in
+    let a = d .before .before .before in
+    simp (
+      c .to-word642 .ensures,
+      c .before .over-flow .ensures,
+      a .before .sign .ensures,
+      above a,
+      le-ltb _ _ (rw size64 at (d .before .before .if2 .left)),
+      lt-ltb _ _ (rw size64 at (d .before .if3 .taken)),
+      le-leb _ _ (d .if4 .taken),
+    )
 
 under-flow-requires : tie.Need-under-flow-requires
 under-flow-requires c κs = search needs
@@ -52,7 +73,18 @@ to-word64-requires-3 c κs = search needs
 
 returns-3 : tie.Need-returns-3
 unfolding openOf
-returns-3 c = simp (c .to-word643 .ensures, c .before .under-flow .ensures, c .before .before .before .before .before .before .sign .ensures, lt-ltb _ _ (rw size64 at (c .before .before .before .before .before .if1 .taken)), le-ltb _ _ (rw size64 at (c .before .before .before .before .if2 .left)), lt-ltb _ _ (rw size64 at (c .before .before .before .if3 .taken)), lt-leb _ _ (c .before .before .if4 .left))
+returns-3 c =
+    let d = c .before .before in
+    let a = d .before .before .before in
+    simp (
+      c .to-word643 .ensures,
+      c .before .under-flow .ensures,
+      a .before .sign .ensures,
+      above a,
+      le-ltb _ _ (rw size64 at (d .before .before .if2 .left)),
+      lt-ltb _ _ (rw size64 at (d .before .if3 .taken)),
+      lt-leb _ _ (d .if4 .left),
+    )
 
 under-flow-requires-2 : tie.Need-under-flow-requires-2
 under-flow-requires-2 c κs = search needs
@@ -60,9 +92,23 @@ under-flow-requires-2 c κs = search needs
 to-word64-requires-4 : tie.Need-to-word64-requires-4
 to-word64-requires-4 c κs = search needs
 
+-- x above 1
 returns-4 : tie.Need-returns-4
 unfolding openOf
-returns-4 c = simp (c .to-word644 .ensures, c .before .under-flow2 .ensures, c .before .before .before .before .before .before .before .sign .ensures, lt-ltb _ _ (rw size64 at (c .before .before .before .before .before .before .if1 .taken)), le-ltb _ _ (rw size64 at (c .before .before .before .before .before .if2 .left)), le-ltb _ _ (rw size64 at (c .before .before .before .before .if3 .left)), lt-ltb _ _ (rw size64 at (c .before .before .before .if5 .taken)), le-leb _ _ (c .before .before .if6 .taken))
+returns-4 c =
+    let d = c .before .before in
+    let b = d .before .before in
+    let a = b .before .before in
+    simp (
+      c .to-word644 .ensures,
+      c .before .under-flow2 .ensures,
+      a .before .sign .ensures,
+      above a,
+      le-ltb _ _ (rw size64 at (b .before .if2 .left)),
+      le-ltb _ _ (rw size64 at (b .if3 .left)),
+      lt-ltb _ _ (rw size64 at (d .before .if5 .taken)),
+      le-leb _ _ (d .if6 .taken),
+    )
 
 over-flow-requires-2 : tie.Need-over-flow-requires-2
 over-flow-requires-2 c κs = search needs
@@ -72,22 +118,40 @@ to-word64-requires-5 c κs = search needs
 
 returns-5 : tie.Need-returns-5
 unfolding openOf
-returns-5 c = simp (c .to-word645 .ensures, c .before .over-flow2 .ensures, c .before .before .before .before .before .before .before .sign .ensures, lt-ltb _ _ (rw size64 at (c .before .before .before .before .before .before .if1 .taken)), le-ltb _ _ (rw size64 at (c .before .before .before .before .before .if2 .left)), le-ltb _ _ (rw size64 at (c .before .before .before .before .if3 .left)), lt-ltb _ _ (rw size64 at (c .before .before .before .if5 .taken)), lt-leb _ _ (c .before .before .if6 .left))
+returns-5 c =
+    let d = c .before .before in
+    let b = d .before .before in
+    let a = b .before .before in
+    simp (
+      c .to-word645 .ensures,
+      c .before .over-flow2 .ensures,
+      a .before .sign .ensures,
+      above a,
+      le-ltb _ _ (rw size64 at (b .before .if2 .left)),
+      le-ltb _ _ (rw size64 at (b .if3 .left)),
+      lt-ltb _ _ (rw size64 at (d .before .if5 .taken)),
+      lt-leb _ _ (d .if6 .left),
+    )
 
 of-word64-requires : tie.Need-of-word64-requires
 of-word64-requires c κs = search needs
 
--- the numbers on the way to the chain's end
-way : (c : tie.After-of-word64) → let a = c .before .before .before .args in Walked double (ofBits binary64 (a .y)) (logOf double (a .x % 2 ^ 63) (a .y % 2 ^ 63 / 2 ^ 32)) (a .negative)
+-- ---- the chain's end
+
+reaches : (c : tie.Joined1) → Reaches double (c .before .before .args .x % 2 ^ 63 / 2 ^ 32) (c .before .before .args .y % 2 ^ 63 / 2 ^ 32)
+reaches c =
+    let y = c .before .before .args .y in
+    ⊎-elim
+    (λ w. inr (le-ltb _ _ (rw size64 at (w .1 .left)), le-ltb _ _ (rw size64 at (w .2 .left)), le-ltb _ _ (rw size64 at (w .3 .left))))
+    (λ w. inl (le-ltb 0x41e00000 (y % 2 ^ 63 / 2 ^ 32) (omega (arith, size64 y, w .left))))
+    (c .if1 .came)
+
+-- the numbers on the way there
+way : (c : tie.After-of-word64) → let a = c .before .before .before .args in
+    Walked double (ofBits binary64 (a .y)) (logOf double (a .x % 2 ^ 63) (a .y % 2 ^ 63 / 2 ^ 32)) (a .negative)
 way c =
     let a = c .before .before .before in
     walked double known64 (a .args .x) (a .args .y) (a .args .negative) (a .pre) (reaches (c .before))
-  where
-    reaches : (c : tie.Joined1) → Reaches double (c .before .before .args .x % 2 ^ 63 / 2 ^ 32) (c .before .before .args .y % 2 ^ 63 / 2 ^ 32)
-    reaches c = ⊎-elim
-        (λ w. inr (le-ltb _ _ (rw size64 at (w .1 .left)), le-ltb _ _ (rw size64 at (w .2 .left)), le-ltb _ _ (rw size64 at (w .3 .left))))
-        (λ w. inl (le-ltb _ _ (rw size64 at (w .left))))
-        (c .if1 .came)
 
 log-of-requires : tie.Need-log-of-requires
 log-of-requires c κs = simp size64 (way c .logarithm .1)
@@ -101,15 +165,38 @@ finish-requires c κs = simp (c .product .ensures, c .before .log-of .ensures, c
 float-to-bits-result : tie.Need-float-to-bits-result
 float-to-bits-result c =
     let b = c .before .before in
-    is-number _ (simp (c .finish .ensures, c .before .product .ensures, b .log-of .ensures, b .before .of-word64 .ensures, b .before .before .before .sign .ensures, size64) (way (b .before) .answer))
+    let s = b .before .before .before .sign .ensures in
+    is-number _ (simp (c .finish .ensures, c .before .product .ensures, b .log-of .ensures, b .before .of-word64 .ensures, s, size64) (way (b .before) .answer))
 
 returns-6 : tie.Need-returns-6
 unfolding openOf
 returns-6 c =
+    let b = c .before .before in
+    let j = b .before .before in
+    let s = j .before .sign .ensures in
     ⊎-elim
-    (λ w. simp (c .finish .ensures, c .before .product .ensures, c .before .before .log-of .ensures, c .before .before .before .of-word64 .ensures, c .before .before .before .before .before .sign .ensures, size64, lt-ltb _ _ (rw size64 at (w .0 .taken)), le-ltb _ _ (rw size64 at (w .1 .left)), le-ltb _ _ (rw size64 at (w .2 .left)), le-ltb _ _ (rw size64 at (w .3 .left))))
-    (λ w. simp (c .finish .ensures, c .before .product .ensures, c .before .before .log-of .ensures, c .before .before .before .of-word64 .ensures, c .before .before .before .before .before .sign .ensures, size64, le-ltb _ _ (rw size64 at (w .left))))
-    (c .before .before .before .before .if1 .came)
+    (λ w. simp (
+      c .finish .ensures,
+      c .before .product .ensures,
+      b .log-of .ensures,
+      b .before .of-word64 .ensures,
+      s,
+      size64,
+      lt-ltb _ _ (rw size64 at (w .0 .taken)),
+      le-ltb _ _ (rw size64 at (w .1 .left)),
+      le-ltb _ _ (rw size64 at (w .2 .left)),
+      le-ltb _ _ (rw size64 at (w .3 .left)),
+    ))
+    (λ w. simp (
+      c .finish .ensures,
+      c .before .product .ensures,
+      b .log-of .ensures,
+      b .before .of-word64 .ensures,
+      s,
+      size64,
+      le-ltb _ _ (rw size64 at (w .left)),
+    ))
+    (j .if1 .came)
 
 pub open-spec : {M : Type 1} → statement M
 open-spec =

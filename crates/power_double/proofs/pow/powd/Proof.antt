@@ -24,10 +24,16 @@ open-requires c κs =
     open-pair binary64 (a .before .args .x) (a .before .args .y) _ (ap told (sym (c .before .s2 .given .1)) ∙ a .sort-powd .ensures)
 
 returns : tie.Need-returns
-returns c = ap (chosen double (c .before .before .before .before .args .x) (c .before .before .before .before .args .y)) (sym (c .before .s .given .1)) ∙ pow-chosen double (c .before .before .before .before .args .x) (c .before .before .before .before .args .y) (c .before .before .before .sort-powd .result) (c .before .before .before .sort-powd .ensures)
+returns c =
+    let b = c .before .before .before in
+    let a = b .before .args in
+    ap (chosen double (a .x) (a .y)) (sym (c .before .s .given .1)) ∙ pow-chosen double (a .x) (a .y) (b .sort-powd .result) (b .sort-powd .ensures)
 
 returns-2 : tie.Need-returns-2
-returns-2 c = c .«open» .ensures ∙ ap (chosen double (c .before .before .before .before .before .args .x) (c .before .before .before .before .before .args .y)) (sym (c .before .before .s2 .given .1)) ∙ pow-chosen double (c .before .before .before .before .before .args .x) (c .before .before .before .before .before .args .y) (c .before .before .before .before .sort-powd .result) (c .before .before .before .before .sort-powd .ensures)
+returns-2 c =
+    let b = c .before .before .before .before in
+    let a = b .before .args in
+    c .«open» .ensures ∙ ap (chosen double (a .x) (a .y)) (sym (c .before .before .s2 .given .1)) ∙ pow-chosen double (a .x) (a .y) (b .sort-powd .result) (b .sort-powd .ensures)
 
 pub powd-spec : {M : Type 1} → statement M
 powd-spec =

@@ -34,8 +34,10 @@ nearest-to-requires c κs =
 -- ---- |z| is more than 0.5
 
 -- n, with its sign, above the whole turn
-e-is : (c : tie.Joined2) → let p = c .before .before .before .before .before .before .args .p in
-    c .if2 .e ≡ cond (leb 0x80000000 (toBits binary32 (add binary32 (p .lo) (p .hi)))) (512 - c .before .before .before .nearest-to .result .size) (512 + c .before .before .before .nearest-to .result .size)
+e-is : (c : tie.Joined2) → let b = c .before .before .before in
+    let p = b .before .before .before .args .p in
+    let n = b .nearest-to .result .size in
+    c .if2 .e ≡ cond (leb 0x80000000 (toBits binary32 (add binary32 (p .lo) (p .hi)))) (512 - n) (512 + n)
 e-is c = ⊎-elim (λ w. simp (le-leb _ _ (w .0 .taken)) (w .2)) (λ w. simp (lt-leb _ _ (w .0 .left)) (w .2)) (c .if2 .came)
 
 e-small : (c : tie.Joined2) → c .if2 .e < 8192

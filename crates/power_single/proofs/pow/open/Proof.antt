@@ -1,7 +1,7 @@
 -- `power_single::pow::open` meets its contract: each way is the definition's. Assumes nothing.
 use Prim.Native.Nat.{ℕ, _%_, _^_}
 use mathlib.Core.Path.{_≡_}
-use mathlib.Core.Bool.{false}
+use mathlib.Core.Bool.{true, false}
 use mathlib.Core.Logic.{inl, inr, ⊎-elim}
 use native.Mathlib.Nat.{div-one}
 use native.Mathlib.Omega.{arith}
@@ -23,6 +23,10 @@ use Rattle.power_single.proofs.pow.open.Tie as tie
 none : (y : ℕ) → ltb 0x80000000 (y % 2 ^ 31) ≡ false
 none y = le-ltb 0x80000000 (y % 2 ^ 31) (omega arith)
 
+-- the tests on |y| and |x|, as the definition asks them
+huge : (c : tie.Then1) → ltb 0x4d000000 (c .before .before .args .y % 2 ^ 31) ≡ true
+huge c = let y = c .before .before .args .y in lt-ltb 0x4d000000 (y % 2 ^ 31) (omega (arith, size32 y, c .if1 .taken))
+
 sign-requires : tie.Need-sign-requires
 sign-requires c κs = search needs
 
@@ -32,9 +36,22 @@ over-flow-requires c κs = search needs
 to-word32-requires : tie.Need-to-word32-requires
 to-word32-requires c κs = search needs
 
+-- x below 1: by the sign of y
 returns : tie.Need-returns
 unfolding openOf
-returns c = simp (c .to-word32 .ensures, c .before .over-flow .ensures, c .before .before .before .before .before .sign .ensures, div-one, lt-ltb _ _ (rw size32 at (c .before .before .before .before .if1 .taken)), none (c .before .before .before .before .before .before .args .y), lt-ltb _ _ (rw size32 at (c .before .before .before .if2 .taken)), le-leb _ _ (c .before .before .if3 .taken))
+returns c =
+    let d = c .before .before in
+    let a = d .before .before in
+    simp (
+      c .to-word32 .ensures,
+      c .before .over-flow .ensures,
+      a .before .sign .ensures,
+      div-one,
+      huge a,
+      none (a .before .before .args .y),
+      lt-ltb _ _ (rw size32 at (d .before .if2 .taken)),
+      le-leb _ _ (d .if3 .taken),
+    )
 
 under-flow-requires : tie.Need-under-flow-requires
 under-flow-requires c κs = search needs
@@ -44,7 +61,19 @@ to-word32-requires-2 c κs = search needs
 
 returns-2 : tie.Need-returns-2
 unfolding openOf
-returns-2 c = simp (c .to-word322 .ensures, c .before .under-flow .ensures, c .before .before .before .before .before .sign .ensures, div-one, lt-ltb _ _ (rw size32 at (c .before .before .before .before .if1 .taken)), none (c .before .before .before .before .before .before .args .y), lt-ltb _ _ (rw size32 at (c .before .before .before .if2 .taken)), lt-leb _ _ (c .before .before .if3 .left))
+returns-2 c =
+    let d = c .before .before in
+    let a = d .before .before in
+    simp (
+      c .to-word322 .ensures,
+      c .before .under-flow .ensures,
+      a .before .sign .ensures,
+      div-one,
+      huge a,
+      none (a .before .before .args .y),
+      lt-ltb _ _ (rw size32 at (d .before .if2 .taken)),
+      lt-leb _ _ (d .if3 .left),
+    )
 
 under-flow-requires-2 : tie.Need-under-flow-requires-2
 under-flow-requires-2 c κs = search needs
@@ -52,9 +81,23 @@ under-flow-requires-2 c κs = search needs
 to-word32-requires-3 : tie.Need-to-word32-requires-3
 to-word32-requires-3 c κs = search needs
 
+-- x above 1
 returns-3 : tie.Need-returns-3
 unfolding openOf
-returns-3 c = simp (c .to-word323 .ensures, c .before .under-flow2 .ensures, c .before .before .before .before .before .before .sign .ensures, div-one, lt-ltb _ _ (rw size32 at (c .before .before .before .before .before .if1 .taken)), none (c .before .before .before .before .before .before .before .args .y), le-ltb _ _ (rw size32 at (c .before .before .before .before .if2 .left)), lt-ltb _ _ (rw size32 at (c .before .before .before .if4 .taken)), le-leb _ _ (c .before .before .if5 .taken))
+returns-3 c =
+    let d = c .before .before in
+    let a = d .before .before .before in
+    simp (
+      c .to-word323 .ensures,
+      c .before .under-flow2 .ensures,
+      a .before .sign .ensures,
+      div-one,
+      huge a,
+      none (a .before .before .args .y),
+      le-ltb _ _ (rw size32 at (d .before .before .if2 .left)),
+      lt-ltb _ _ (rw size32 at (d .before .if4 .taken)),
+      le-leb _ _ (d .if5 .taken),
+    )
 
 over-flow-requires-2 : tie.Need-over-flow-requires-2
 over-flow-requires-2 c κs = search needs
@@ -64,22 +107,40 @@ to-word32-requires-4 c κs = search needs
 
 returns-4 : tie.Need-returns-4
 unfolding openOf
-returns-4 c = simp (c .to-word324 .ensures, c .before .over-flow2 .ensures, c .before .before .before .before .before .before .sign .ensures, div-one, lt-ltb _ _ (rw size32 at (c .before .before .before .before .before .if1 .taken)), none (c .before .before .before .before .before .before .before .args .y), le-ltb _ _ (rw size32 at (c .before .before .before .before .if2 .left)), lt-ltb _ _ (rw size32 at (c .before .before .before .if4 .taken)), lt-leb _ _ (c .before .before .if5 .left))
+returns-4 c =
+    let d = c .before .before in
+    let a = d .before .before .before in
+    simp (
+      c .to-word324 .ensures,
+      c .before .over-flow2 .ensures,
+      a .before .sign .ensures,
+      div-one,
+      huge a,
+      none (a .before .before .args .y),
+      le-ltb _ _ (rw size32 at (d .before .before .if2 .left)),
+      lt-ltb _ _ (rw size32 at (d .before .if4 .taken)),
+      lt-leb _ _ (d .if5 .left),
+    )
 
 of-word32-requires : tie.Need-of-word32-requires
 of-word32-requires c κs = search needs
 
--- the numbers on the way to the chain's end
-way : (c : tie.After-of-word32) → let a = c .before .before .before .args in Walked single (ofBits binary32 (a .y)) (logOf single (a .x % 2 ^ 31) (a .y % 2 ^ 31)) (a .negative)
+-- ---- the chain's end
+
+reaches : (c : tie.Joined1) → Reaches single (c .before .before .args .x % 2 ^ 31) (c .before .before .args .y % 2 ^ 31)
+reaches c =
+    let y = c .before .before .args .y in
+    ⊎-elim
+    (λ w. inr (none y, le-ltb _ _ (rw size32 at (w .1 .left)), le-ltb _ _ (rw size32 at (w .2 .left))))
+    (λ w. inl (le-ltb 0x4d000000 (y % 2 ^ 31) (omega (arith, size32 y, w .left))))
+    (c .if1 .came)
+
+-- the numbers on the way there
+way : (c : tie.After-of-word32) → let a = c .before .before .before .args in
+    Walked single (ofBits binary32 (a .y)) (logOf single (a .x % 2 ^ 31) (a .y % 2 ^ 31)) (a .negative)
 way c =
     let a = c .before .before .before in
     simp div-one at (walked single known32 (a .args .x) (a .args .y) (a .args .negative) (a .pre) (simp div-one (reaches (c .before))))
-  where
-    reaches : (c : tie.Joined1) → Reaches single (c .before .before .args .x % 2 ^ 31) (c .before .before .args .y % 2 ^ 31)
-    reaches c = ⊎-elim
-        (λ w. inr (none (c .before .before .args .y), le-ltb _ _ (rw size32 at (w .1 .left)), le-ltb _ _ (rw size32 at (w .2 .left))))
-        (λ w. inl (le-ltb _ _ (rw size32 at (w .left))))
-        (c .if1 .came)
 
 log-of-requires : tie.Need-log-of-requires
 log-of-requires c κs = simp size32 (way c .logarithm .1)
@@ -93,15 +154,40 @@ finish-requires c κs = simp (c .product .ensures, c .before .log-of .ensures, c
 float-to-bits-result : tie.Need-float-to-bits-result
 float-to-bits-result c =
     let b = c .before .before in
-    is-number _ (simp (c .finish .ensures, c .before .product .ensures, b .log-of .ensures, b .before .of-word32 .ensures, b .before .before .before .sign .ensures, size32) (way (b .before) .answer))
+    let s = b .before .before .before .sign .ensures in
+    is-number _ (simp (c .finish .ensures, c .before .product .ensures, b .log-of .ensures, b .before .of-word32 .ensures, s, size32) (way (b .before) .answer))
 
 returns-5 : tie.Need-returns-5
 unfolding openOf
 returns-5 c =
+    let b = c .before .before in
+    let j = b .before .before in
+    let s = j .before .sign .ensures in
     ⊎-elim
-    (λ w. simp (c .finish .ensures, c .before .product .ensures, c .before .before .log-of .ensures, c .before .before .before .of-word32 .ensures, c .before .before .before .before .before .sign .ensures, size32, div-one, lt-ltb _ _ (rw size32 at (w .0 .taken)), none (c .before .before .before .before .before .before .args .y), le-ltb _ _ (rw size32 at (w .1 .left)), le-ltb _ _ (rw size32 at (w .2 .left))))
-    (λ w. simp (c .finish .ensures, c .before .product .ensures, c .before .before .log-of .ensures, c .before .before .before .of-word32 .ensures, c .before .before .before .before .before .sign .ensures, size32, div-one, le-ltb _ _ (rw size32 at (w .left))))
-    (c .before .before .before .before .if1 .came)
+    (λ w. simp (
+      c .finish .ensures,
+      c .before .product .ensures,
+      b .log-of .ensures,
+      b .before .of-word32 .ensures,
+      s,
+      size32,
+      div-one,
+      lt-ltb _ _ (rw size32 at (w .0 .taken)),
+      none (j .before .before .args .y),
+      le-ltb _ _ (rw size32 at (w .1 .left)),
+      le-ltb _ _ (rw size32 at (w .2 .left)),
+    ))
+    (λ w. simp (
+      c .finish .ensures,
+      c .before .product .ensures,
+      b .log-of .ensures,
+      b .before .of-word32 .ensures,
+      s,
+      size32,
+      div-one,
+      le-ltb _ _ (rw size32 at (w .left)),
+    ))
+    (j .if1 .came)
 
 pub open-spec : {M : Type 1} → statement M
 open-spec =

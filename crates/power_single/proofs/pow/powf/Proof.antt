@@ -17,7 +17,10 @@ enum-known-s : tie.Need-enum-known-s
 enum-known-s c = search needs
 
 cast-result : tie.Need-cast-result
-cast-result c = record { fits = settled-word binary32 (c .before .before .before .before .args .x) (c .before .before .before .before .args .y) (c .before .before .before .sort-powf .result) _ (c .before .s .given .1) (c .before .before .before .sort-powf .ensures) (c .before .before .before .before .fits .x .fits) }
+cast-result c =
+    let b = c .before .before .before in
+    let a = b .before in
+    record { fits = settled-word binary32 (a .args .x) (a .args .y) (b .sort-powf .result) _ (c .before .s .given .1) (b .sort-powf .ensures) (a .fits .x .fits) }
 
 enum-known-s-2 : tie.Need-enum-known-s-2
 enum-known-s-2 c = search needs
@@ -28,10 +31,16 @@ open-requires c κs =
     open-pair binary32 (a .before .args .x) (a .before .args .y) _ (ap told (sym (c .before .s2 .given .1)) ∙ a .sort-powf .ensures)
 
 returns : tie.Need-returns
-returns c = ap (chosen single (c .before .before .before .before .args .x) (c .before .before .before .before .args .y)) (sym (c .before .s .given .1)) ∙ pow-chosen single (c .before .before .before .before .args .x) (c .before .before .before .before .args .y) (c .before .before .before .sort-powf .result) (c .before .before .before .sort-powf .ensures)
+returns c =
+    let b = c .before .before .before in
+    let a = b .before .args in
+    ap (chosen single (a .x) (a .y)) (sym (c .before .s .given .1)) ∙ pow-chosen single (a .x) (a .y) (b .sort-powf .result) (b .sort-powf .ensures)
 
 returns-2 : tie.Need-returns-2
-returns-2 c = c .«open» .ensures ∙ ap (chosen single (c .before .before .before .before .before .args .x) (c .before .before .before .before .before .args .y)) (sym (c .before .before .s2 .given .1)) ∙ pow-chosen single (c .before .before .before .before .before .args .x) (c .before .before .before .before .before .args .y) (c .before .before .before .before .sort-powf .result) (c .before .before .before .before .sort-powf .ensures)
+returns-2 c =
+    let b = c .before .before .before .before in
+    let a = b .before .args in
+    c .«open» .ensures ∙ ap (chosen single (a .x) (a .y)) (sym (c .before .before .s2 .given .1)) ∙ pow-chosen single (a .x) (a .y) (b .sort-powf .result) (b .sort-powf .ensures)
 
 pub powf-spec : {M : Type 1} → statement M
 powf-spec =

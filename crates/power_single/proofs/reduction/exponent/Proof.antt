@@ -14,7 +14,10 @@ unbiased-requires : tie.Need-unbiased-requires
 unbiased-requires c κs = search needs
 
 int-to-float-result : tie.Need-int-to-float-result
-int-to-float-result c = subst⁻¹ (λ (z : ℤ). T (inFloat binary32 z)) (rw (c .before .unbiased .ensures) (unbiased-back 151 (c .before .before .args .e) (omega arith) (c .before .before .pre))) (unbiased-exact binary32 151 (c .before .before .args .e) (omega arith) (c .before .before .pre))
+int-to-float-result c =
+    let a = c .before .before in
+    subst⁻¹ (λ (z : ℤ). T (inFloat binary32 z)) (rw (c .before .unbiased .ensures) (unbiased-back 151 (a .args .e) (omega arith) (a .pre)))
+    (unbiased-exact binary32 151 (a .args .e) (omega arith) (a .pre))
 
 returns : tie.Need-returns
 unfolding exponentOf
