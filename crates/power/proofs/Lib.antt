@@ -8,6 +8,7 @@ pub mod HighWord
 pub mod NearestWhole
 pub mod Intervals
 pub mod Nan
+pub mod MadeOf
 pub mod Fits
 pub mod Exponent
 pub mod Unsettled

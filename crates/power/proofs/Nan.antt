@@ -1,7 +1,7 @@
--- A NaN goes through every operation of the chain, and a leading part keeps a number a number. Assumes nothing.
+-- A NaN goes through every operation of the chain, a leading part keeps a number a number, and rule 5's operations make no NaN of a number. Assumes nothing.
 use Prim.Native.Nat.{ℕ, suc, _+_, _*_, _/_, _%_, _^_, _≤_}
 use mathlib.Core.Path.{_≡_, refl, sym, ap, _∙_, subst, subst⁻¹}
-use mathlib.Core.Bool.{Bool, true, false, not, cond, true≢false}
+use mathlib.Core.Bool.{Bool, true, false, not, cond}
 use native.Mathlib.Nat.{le-trans}
 use lib.Dec.{T, eqb, eqb·suc-zero}
 use lib.IntN.{ℤ, pos}
@@ -14,10 +14,8 @@ use Rattle.words.proofs.Floats.{word-number}
 use Rattle.scale.proofs.Powers.{round-number}
 use Rattle.power.specs.Sorting.{over, square}
 use Rattle.power.proofs.Words.{chopped}
-use Rattle.power.specs.Chain.{_⊕_, _⊖_, _⊗_, _⊘_, at, #1, #3, con, chop, splitOf, headOf, quotientOf, seriesOf, logarithmOf, sumOf, log2Of, exponentOf, farAt, partsOf, exponentialOf}
-use Rattle.power.specs.Places.{BP, DP-H, DP-L, LG2, LG2-H, LG2-L}
+use Rattle.power.specs.Chain.{chop}
 use Rattle.power.specs.NoNan.{Number}
-use Rattle.power.specs.Width.{Width, Two, Three, Reduction}
 use Rattle.power.specs.Power.{single, double}
 
 pub add-nan-l : (f : Format) (y : Float) → add f nan y ≡ nan
@@ -65,73 +63,6 @@ shorter32 = refl
 pub short64 : chop double 32 nan ≡ nan
 unfolding chop toBits ofBits
 short64 = refl
-
--- ---- where an answer is no NaN, neither is the number that it was made of
-
-pub number-of : (F : Float → Float) (x : Float) → F nan ≡ nan → Number (F x) → Number x
-unfolding isNan
-number-of F nan e h = absurd (true≢false (sym (ap isNan e) ∙ h))
-number-of F (inf s) e h = refl
-number-of F (fin s m k) e h = refl
-
-module _ (w : Width) (short : chop w (w .short) nan ≡ nan) where
-  abbrev d : ℕ
-  d = w .short
-
-  -- a leading part is taken of u + v
-  pub split-sum : (u v : Float) → Number (splitOf w u v .lo) → Number (_⊕_ w u v)
-  unfolding splitOf
-  split-sum u v h = number-of (λ t. _⊖_ w v (_⊖_ w (chop w d t) u)) (_⊕_ w u v) (simp (short, sub-nan-l, sub-nan-r)) h
-
-  -- of s
-  pub quotient-s : (ax bp t-h : Float) → Number (quotientOf w ax bp t-h .lo) → Number (quotientOf w ax bp t-h .s)
-  unfolding quotientOf
-  quotient-s ax bp t-h h = number-of
-      (λ t. _⊗_ w (_⊘_ w (#1 w) (_⊕_ w ax bp)) (_⊖_ w (_⊖_ w (_⊖_ w ax bp) (_⊗_ w (chop w d t) t-h)) (_⊗_ w (chop w d t) (_⊖_ w ax (_⊖_ w t-h bp)))))
-      (quotientOf w ax bp t-h .s) (simp (short, mul-nan-l, mul-nan-r, sub-nan-l, sub-nan-r)) h
-
-  -- of 3 + s_h * s_h + r
-  pub logarithm-t : (q : Three) (r : Float) → Number (logarithmOf w q r .lo) → Number (_⊕_ w (_⊕_ w (#3 w) (_⊗_ w (q .hi) (q .hi))) r)
-  unfolding logarithmOf splitOf
-  logarithm-t q r h = number-of
-      (λ t. splitOf w (_⊗_ w (q .hi) (chop w d t)) (_⊕_ w (_⊗_ w (q .lo) (chop w d t)) (_⊗_ w (_⊖_ w r (_⊖_ w (_⊖_ w (chop w d t) (#3 w)) (_⊗_ w (q .hi) (q .hi)))) (q .s))) .lo)
-      (_⊕_ w (_⊕_ w (#3 w) (_⊗_ w (q .hi) (q .hi))) r) (simp (short, mul-nan-l, mul-nan-r, add-nan-l, sub-nan-l, sub-nan-r)) h
-
-  pub logarithm-quotient : (q : Three) (r : Float) → Number (logarithmOf w q r .lo) → Number (q .lo)
-  unfolding logarithmOf splitOf
-  logarithm-quotient q r h = number-of (λ x. logarithmOf w (record { s = q .s; hi = q .hi; lo = x }) r .lo) (q .lo) (simp (mul-nan-l, add-nan-l, sub-nan-l)) h
-
-  -- of z_h + z_l + dp_h + t
-  pub sum-first : (z-h z-l dp-h t : Float) → Number (sumOf w z-h z-l dp-h t .lo) → Number (_⊕_ w (_⊕_ w (_⊕_ w z-h z-l) dp-h) t)
-  unfolding sumOf
-  sum-first z-h z-l dp-h t h = number-of (λ x. _⊖_ w z-l (_⊖_ w (_⊖_ w (_⊖_ w (chop w d x) t) dp-h) z-h)) (_⊕_ w (_⊕_ w (_⊕_ w z-h z-l) dp-h) t) (simp (short, sub-nan-l, sub-nan-r)) h
-
-  pub log2-product : (p : Two) (dp-h dp-l t : Float) → Number (log2Of w p dp-h dp-l t .lo) → Number (p .lo)
-  unfolding log2Of sumOf
-  log2-product p dp-h dp-l t h = number-of (λ x. log2Of w (record { hi = p .hi; lo = x }) dp-h dp-l t .lo) (p .lo) (simp (mul-nan-l, add-nan-l, add-nan-r, sub-nan-l)) h
-
-  -- the logarithm's two stages, of its answer
-  abbrev q : Reduction → Three
-  q r = quotientOf w (at w (r .word)) (con w (BP + r .k)) (headOf w (r .word) (r .k))
-
-  pub far-logarithm : (r : Reduction) → Number (farAt w r .lo) → Number (logarithmOf w (q r) (seriesOf w (q r)) .lo)
-  unfolding farAt
-  far-logarithm r h = log2-product (logarithmOf w (q r) (seriesOf w (q r))) (con w (DP-H + r .k)) (con w (DP-L + r .k)) (exponentOf w (r .e)) h
-
-  pub far-quotient : (r : Reduction) → Number (farAt w r .lo) → Number (q r .lo)
-  far-quotient r h = logarithm-quotient (q r) (seriesOf w (q r)) (far-logarithm r h)
-
--- the exponential's leading part is taken of p_l + p_h
-pub exponential-sum : (w : Width) (p : Two) → chop w (w .shorter) nan ≡ nan → Number (exponentialOf w (partsOf w p)) → Number (_⊕_ w (p .lo) (p .hi))
-unfolding exponentialOf partsOf
-exponential-sum w p shorter h = number-of
-    (λ s.
-    let t = chop w (w .shorter) s in
-    let u = _⊗_ w t (con w LG2-H) in
-    let v = _⊕_ w (_⊗_ w (_⊖_ w (p .lo) (_⊖_ w t (p .hi))) (con w LG2)) (_⊗_ w t (con w LG2-L)) in
-    let z = _⊕_ w u v in
-    exponentialOf w (record { hi = z; lo = _⊖_ w v (_⊖_ w z u) }))
-    (_⊕_ w (p .lo) (p .hi)) (simp (shorter, mul-nan-l, add-nan-l, sub-nan-l, sub-nan-r, div-nan-l)) h
 
 -- ---- the leading part of a number
 

@@ -4,10 +4,10 @@ use mathlib.Core.Path.{_≡_}
 use mathlib.Core.Bool.{Bool, false, cond}
 use mathlib.Core.Logic.{_⊎_}
 use lib.Dec.{ltb}
-use lib.Ieee.{Float, isNan, toBits, hid, top}
+use lib.Ieee.{Float, isNan, add, sub, toBits, hid, top}
 use Rattle.words.specs.Format.{Format, infinity, one, magnitude, ours}
 use Rattle.power.specs.Width.{Width, Two}
-use Rattle.power.specs.Chain.{_⊕_, _⊖_, productOf, fateOf, nearestOf, partsOf, exponentialOf, exp2Of, signOf, finishOf}
+use Rattle.power.specs.Chain.{productOf, fateOf, nearestOf, partsOf, exponentialOf, exp2Of, signOf, finishOf}
 use Rattle.power.specs.declared.answer.Fate.the-variants.{Over, Under, Within}
 
 -- a float that is no NaN
@@ -23,9 +23,9 @@ pub record OpenPair (f : Format) (x y : ℕ) : Type 0 where
 -- p_h + p_l less the whole number nearest to it, where it is more than 0.5 in size: what the exponential is taken of
 unfoldable pub fractionOf : Width → Two → Two
 fractionOf w p =
-    let j = toBits (w .format) (_⊕_ w (p .lo) (p .hi)) / 2 ^ w .below in
+    let j = toBits (w .format) (add (w .format) (p .lo) (p .hi)) / 2 ^ w .below in
     cond (ltb ((one (ours (w .format)) - hid (w .format)) / 2 ^ w .below) (j % (top (w .format) / 2 ^ w .below)))
-    (record { hi = _⊖_ w (p .hi) (nearestOf w j .float); lo = p .lo }) p
+    (record { hi = sub (w .format) (p .hi) (nearestOf w j .float); lo = p .lo }) p
 
 -- the exponential and 2 ** (p_h + p_l), which `exp2` finds, are numbers
 pub record Raisable (w : Width) (p : Two) : Type 0 where
@@ -34,7 +34,7 @@ pub record Raisable (w : Width) (p : Two) : Type 0 where
 
 -- what the chain's end asks of p: z is a number, and within the limits `exp2` may be called
 pub record Finishable (w : Width) (p : Two) : Type 0 where
-  pub sum : Number (_⊕_ w (p .lo) (p .hi))
+  pub sum : Number (add (w .format) (p .lo) (p .hi))
   pub raisable : fateOf w Over Under Within p ≡ Within → Raisable w p
 
 -- the high words ix and iy of |x| and |y| lead to the chain's end: |y| is not huge, or x is near 1 and |y| not past `must`

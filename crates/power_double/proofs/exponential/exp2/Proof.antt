@@ -12,7 +12,8 @@ use Rattle.power.specs.NoNan.{Number, fractionOf}
 use Rattle.power.specs.Power.{double}
 use Rattle.power.proofs.Words.{size32}
 use Rattle.power.proofs.Limits.{Inside, within, within-number}
-use Rattle.power.proofs.Nan.{short64, exponential-sum}
+use Rattle.power.proofs.Nan.{short64}
+use Rattle.power.proofs.MadeOf.{exponential-sum}
 use Rattle.power_double.specs.Parts.{two}
 use borrow.Author.Needs.{needs}
 use Rattle.power_double.proofs.exponential.exp2.Statement.{statement}

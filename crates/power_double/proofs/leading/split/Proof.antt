@@ -1,7 +1,8 @@
 -- `power_double::leading::split` meets its contract: u + v is a number, and the operations are the definition's, in its order. Assumes nothing.
 use Rattle.power.specs.Chain.{splitOf}
 use Rattle.power.specs.Power.{double}
-use Rattle.power.proofs.Nan.{short64, split-sum}
+use Rattle.power.proofs.Nan.{short64}
+use Rattle.power.proofs.MadeOf.{split-sum}
 use Rattle.power_double.proofs.leading.split.Statement.{statement}
 use Rattle.power_double.proofs.leading.split.Tie as tie
 

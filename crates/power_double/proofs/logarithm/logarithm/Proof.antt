@@ -1,7 +1,8 @@
 -- `power_double::logarithm::logarithm` meets its contract: 3 + s_h * s_h + r is a number, and the operations are the definition's, in its order. Assumes nothing.
 use Rattle.power.specs.Chain.{logarithmOf}
 use Rattle.power.specs.Power.{double}
-use Rattle.power.proofs.Nan.{short64, logarithm-t}
+use Rattle.power.proofs.Nan.{short64}
+use Rattle.power.proofs.MadeOf.{logarithm-t}
 use Rattle.power_double.specs.Parts.{three}
 use Rattle.power_double.proofs.logarithm.logarithm.Statement.{statement}
 use Rattle.power_double.proofs.logarithm.logarithm.Tie as tie

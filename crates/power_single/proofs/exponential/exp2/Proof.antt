@@ -15,7 +15,8 @@ use Rattle.power.specs.NoNan.{Number, fractionOf}
 use Rattle.power.specs.Power.{single}
 use Rattle.power.proofs.Words.{size32}
 use Rattle.power.proofs.Limits.{Inside, within, within-number}
-use Rattle.power.proofs.Nan.{is-number, shorter32, exponential-sum}
+use Rattle.power.proofs.Nan.{is-number, shorter32}
+use Rattle.power.proofs.MadeOf.{exponential-sum}
 use Rattle.power_single.specs.Parts.{two}
 use borrow.Author.Needs.{needs}
 use Rattle.power_single.proofs.exponential.exp2.Statement.{statement}

@@ -4,7 +4,8 @@ use Rattle.power.specs.Chain.{farAt, farOf}
 use Rattle.power.specs.NoNan.{Number}
 use Rattle.power.specs.Power.{single}
 use Rattle.power.specs.Width.{Reduction}
-use Rattle.power.proofs.Nan.{short32, far-logarithm, far-quotient}
+use Rattle.power.proofs.Nan.{short32}
+use Rattle.power.proofs.MadeOf.{far-logarithm, far-quotient}
 use Rattle.power_single.specs.Parts.{reduction}
 use borrow.Author.Needs.{needs}
 use Rattle.power_single.proofs.logarithm.far.Statement.{statement}

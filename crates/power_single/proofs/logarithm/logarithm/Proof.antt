@@ -1,7 +1,8 @@
 -- `power_single::logarithm::logarithm` meets its contract: 3 + s_h * s_h + r is a number, and the operations are the definition's, in its order. Assumes nothing.
 use Rattle.power.specs.Chain.{logarithmOf}
 use Rattle.power.specs.Power.{single}
-use Rattle.power.proofs.Nan.{short32, logarithm-t}
+use Rattle.power.proofs.Nan.{short32}
+use Rattle.power.proofs.MadeOf.{logarithm-t}
 use Rattle.power_single.specs.Parts.{three}
 use Rattle.power_single.proofs.logarithm.logarithm.Statement.{statement}
 use Rattle.power_single.proofs.logarithm.logarithm.Tie as tie

@@ -1,7 +1,8 @@
 -- `power_single::logarithm::quotient` meets its contract: s is a number, and the operations are the definition's, in its order. Assumes nothing.
 use Rattle.power.specs.Chain.{quotientOf}
 use Rattle.power.specs.Power.{single}
-use Rattle.power.proofs.Nan.{short32, quotient-s}
+use Rattle.power.proofs.Nan.{short32}
+use Rattle.power.proofs.MadeOf.{quotient-s}
 use Rattle.power_single.proofs.logarithm.quotient.Statement.{statement}
 use Rattle.power_single.proofs.logarithm.quotient.Tie as tie
 

@@ -1,7 +1,8 @@
 -- `power_single::logarithm::sum` meets its contract: the sum is a number, and the operations are the definition's, in its order. Assumes nothing.
 use Rattle.power.specs.Chain.{sumOf}
 use Rattle.power.specs.Power.{single}
-use Rattle.power.proofs.Nan.{short32, sum-first}
+use Rattle.power.proofs.Nan.{short32}
+use Rattle.power.proofs.MadeOf.{sum-first}
 use Rattle.power_single.proofs.logarithm.sum.Statement.{statement}
 use Rattle.power_single.proofs.logarithm.sum.Tie as tie
 
