@@ -60,17 +60,8 @@ big c =
     let r = b .before .before .before .before .pre .1 in
     (simp (← h, above (b .before), ← b .nearest-to .ensures .0) at (r .exponential), simp (← h, above (b .before), ← b .nearest-to .ensures .0) at (r .answer))
 
-sub-e : tie.Need-sub-e
-sub-e c = search needs
-
-add-e : tie.Need-add-e
-add-e c = search needs
-
 parts-requires : tie.Need-parts-requires
 parts-requires c κs = exponential-sum double _ short64 (big c .0)
-
-exponential-requires : tie.Need-exponential-requires
-exponential-requires c κs = search needs
 
 raised-requires : tie.Need-raised-requires
 raised-requires c κs =
@@ -90,9 +81,6 @@ small c =
 
 parts-requires-2 : tie.Need-parts-requires-2
 parts-requires-2 c κs = within-number double (two (c .before .before .before .args .p)) (lit< tt) (c .before .before .before .pre .0)
-
-exponential-requires-2 : tie.Need-exponential-requires-2
-exponential-requires-2 c κs = search needs
 
 raised-requires-2 : tie.Need-raised-requires-2
 raised-requires-2 c κs =
@@ -119,13 +107,13 @@ exp2-spec =
     (tie.spec
     get-high-word-requires
     nearest-to-requires
-    sub-e
-    add-e
+    (λ c. search needs)
+    (λ c. search needs)
     parts-requires
-    exponential-requires
+    (λ c κs. search needs)
     raised-requires
     parts-requires-2
-    exponential-requires-2
+    (λ c κs. search needs)
     raised-requires-2
     returns
     returns-2)

@@ -15,8 +15,5 @@ float-to-bits-result c = is-number (c .args .x) (c .pre)
 cast-result : tie.Need-cast-result
 cast-result c = record { fits = omega (arith, toBits-lt binary64 (c .args .x) (subst T (sym (c .good .0 .1)) tt)) }
 
-returns : tie.Need-returns
-returns c = search needs
-
 pub get-high-word-spec : {M : Type 1} → statement M
-get-high-word-spec = tie.close (tie.spec float-to-bits-result cast-result returns)
+get-high-word-spec = tie.close (tie.spec float-to-bits-result cast-result (λ c. search needs))

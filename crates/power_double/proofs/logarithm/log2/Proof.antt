@@ -4,15 +4,6 @@ use borrow.Author.Needs.{needs}
 use Rattle.power_double.proofs.logarithm.log2.Statement.{statement}
 use Rattle.power_double.proofs.logarithm.log2.Tie as tie
 
-constant-requires : tie.Need-constant-requires
-constant-requires c κs = search needs
-
-constant-requires-2 : tie.Need-constant-requires-2
-constant-requires-2 c κs = search needs
-
-constant-requires-3 : tie.Need-constant-requires-3
-constant-requires-3 c κs = search needs
-
 sum-requires : tie.Need-sum-requires
 unfolding log2Of
 sum-requires c κs =
@@ -26,4 +17,4 @@ returns c = cc
 pub log2-spec : {M : Type 1} → statement M
 log2-spec =
     tie.close
-    (tie.spec constant-requires constant-requires-2 constant-requires-3 sum-requires returns)
+    (tie.spec (λ c κs. search needs) (λ c κs. search needs) (λ c κs. search needs) sum-requires returns)

@@ -4,21 +4,6 @@ use borrow.Author.Needs.{needs}
 use Rattle.power_double.proofs.logarithm.near.Statement.{statement}
 use Rattle.power_double.proofs.logarithm.near.Tie as tie
 
-of-word64-requires : tie.Need-of-word64-requires
-of-word64-requires c κs = search needs
-
-constant-requires : tie.Need-constant-requires
-constant-requires c κs = search needs
-
-constant-requires-2 : tie.Need-constant-requires-2
-constant-requires-2 c κs = search needs
-
-constant-requires-3 : tie.Need-constant-requires-3
-constant-requires-3 c κs = search needs
-
-constant-requires-4 : tie.Need-constant-requires-4
-constant-requires-4 c κs = search needs
-
 split-requires : tie.Need-split-requires
 unfolding nearOf
 split-requires c κs =
@@ -33,10 +18,10 @@ pub near-spec : {M : Type 1} → statement M
 near-spec =
     tie.close
     (tie.spec
-    of-word64-requires
-    constant-requires
-    constant-requires-2
-    constant-requires-3
-    constant-requires-4
+    (λ c κs. search needs)
+    (λ c κs. search needs)
+    (λ c κs. search needs)
+    (λ c κs. search needs)
+    (λ c κs. search needs)
     split-requires
     returns)

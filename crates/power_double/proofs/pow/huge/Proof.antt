@@ -6,18 +6,6 @@ use borrow.Author.Needs.{needs}
 use Rattle.power_double.proofs.pow.huge.Statement.{statement}
 use Rattle.power_double.proofs.pow.huge.Tie as tie
 
-over-flow-requires : tie.Need-over-flow-requires
-over-flow-requires c κs = search needs
-
-under-flow-requires : tie.Need-under-flow-requires
-under-flow-requires c κs = search needs
-
-under-flow-requires-2 : tie.Need-under-flow-requires-2
-under-flow-requires-2 c κs = search needs
-
-over-flow-requires-2 : tie.Need-over-flow-requires-2
-over-flow-requires-2 c κs = search needs
-
 returns : tie.Need-returns
 unfolding hugeOf
 returns c = simp (lt-ltb (c .before .before .before .args .ix) 0x3ff00000 (omega arith), c .before .if2 .taken, c .over-flow .ensures)
@@ -38,10 +26,10 @@ pub huge-spec : {M : Type 1} → statement M
 huge-spec =
     tie.close
     (tie.spec
-    over-flow-requires
-    under-flow-requires
-    under-flow-requires-2
-    over-flow-requires-2
+    (λ c κs. search needs)
+    (λ c κs. search needs)
+    (λ c κs. search needs)
+    (λ c κs. search needs)
     returns
     returns-2
     returns-3

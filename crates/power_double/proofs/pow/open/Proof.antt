@@ -18,9 +18,6 @@ use borrow.Author.Needs.{needs}
 use Rattle.power_double.proofs.pow.open.Statement.{statement}
 use Rattle.power_double.proofs.pow.open.Tie as tie
 
-sign-requires : tie.Need-sign-requires
-sign-requires c κs = search needs
-
 cast-ix : tie.Need-cast-ix
 cast-ix c = rw size64 (omega arith)
 
@@ -31,23 +28,11 @@ cast-iy c = rw size64 (omega arith)
 above : (c : tie.Then1) → ltb 0x41e00000 (c .before .before .args .y % 2 ^ 63 / 2 ^ 32) ≡ true
 above c = let y = c .before .before .args .y in lt-ltb 0x41e00000 (y % 2 ^ 63 / 2 ^ 32) (omega (arith, size64 y, c .if1 .taken))
 
-huge-requires : tie.Need-huge-requires
-huge-requires c κs = search needs
-
-to-word64-requires : tie.Need-to-word64-requires
-to-word64-requires c κs = search needs
-
 returns : tie.Need-returns
 unfolding openOf
 returns c =
     let d = c .before .before in
     simp (c .to-word64 .ensures, c .before .huge .ensures, above (d .before), lt-ltb _ _ (rw size64 at (d .if2 .taken)), size64)
-
-over-flow-requires : tie.Need-over-flow-requires
-over-flow-requires c κs = search needs
-
-to-word64-requires-2 : tie.Need-to-word64-requires-2
-to-word64-requires-2 c κs = search needs
 
 -- x below 1: by the sign of y
 returns-2 : tie.Need-returns-2
@@ -65,12 +50,6 @@ returns-2 c =
       le-leb _ _ (d .if4 .taken),
     )
 
-under-flow-requires : tie.Need-under-flow-requires
-under-flow-requires c κs = search needs
-
-to-word64-requires-3 : tie.Need-to-word64-requires-3
-to-word64-requires-3 c κs = search needs
-
 returns-3 : tie.Need-returns-3
 unfolding openOf
 returns-3 c =
@@ -85,12 +64,6 @@ returns-3 c =
       lt-ltb _ _ (rw size64 at (d .before .if3 .taken)),
       lt-leb _ _ (d .if4 .left),
     )
-
-under-flow-requires-2 : tie.Need-under-flow-requires-2
-under-flow-requires-2 c κs = search needs
-
-to-word64-requires-4 : tie.Need-to-word64-requires-4
-to-word64-requires-4 c κs = search needs
 
 -- x above 1
 returns-4 : tie.Need-returns-4
@@ -110,12 +83,6 @@ returns-4 c =
       le-leb _ _ (d .if6 .taken),
     )
 
-over-flow-requires-2 : tie.Need-over-flow-requires-2
-over-flow-requires-2 c κs = search needs
-
-to-word64-requires-5 : tie.Need-to-word64-requires-5
-to-word64-requires-5 c κs = search needs
-
 returns-5 : tie.Need-returns-5
 unfolding openOf
 returns-5 c =
@@ -132,9 +99,6 @@ returns-5 c =
       lt-ltb _ _ (rw size64 at (d .before .if5 .taken)),
       lt-leb _ _ (d .if6 .left),
     )
-
-of-word64-requires : tie.Need-of-word64-requires
-of-word64-requires c κs = search needs
 
 -- ---- the chain's end
 
@@ -202,25 +166,25 @@ pub open-spec : {M : Type 1} → statement M
 open-spec =
     tie.close
     (tie.spec
-    sign-requires
+    (λ c κs. search needs)
     cast-ix
     cast-iy
-    huge-requires
-    to-word64-requires
+    (λ c κs. search needs)
+    (λ c κs. search needs)
     returns
-    over-flow-requires
-    to-word64-requires-2
+    (λ c κs. search needs)
+    (λ c κs. search needs)
     returns-2
-    under-flow-requires
-    to-word64-requires-3
+    (λ c κs. search needs)
+    (λ c κs. search needs)
     returns-3
-    under-flow-requires-2
-    to-word64-requires-4
+    (λ c κs. search needs)
+    (λ c κs. search needs)
     returns-4
-    over-flow-requires-2
-    to-word64-requires-5
+    (λ c κs. search needs)
+    (λ c κs. search needs)
     returns-5
-    of-word64-requires
+    (λ c κs. search needs)
     log-of-requires
     product-requires
     finish-requires

@@ -9,15 +9,6 @@ use borrow.Author.Needs.{needs}
 use Rattle.power_double.proofs.pow.powd.Statement.{statement}
 use Rattle.power_double.proofs.pow.powd.Tie as tie
 
-sort-powd-requires : tie.Need-sort-powd-requires
-sort-powd-requires c κs = search needs
-
-enum-known-s : tie.Need-enum-known-s
-enum-known-s c = search needs
-
-enum-known-s-2 : tie.Need-enum-known-s-2
-enum-known-s-2 c = search needs
-
 open-requires : tie.Need-open-requires
 open-requires c κs =
     let a = c .before .before .before in
@@ -38,4 +29,4 @@ returns-2 c =
 pub powd-spec : {M : Type 1} → statement M
 powd-spec =
     tie.close
-    (tie.spec sort-powd-requires enum-known-s enum-known-s-2 open-requires returns returns-2)
+    (tie.spec (λ c κs. search needs) (λ c. search needs) (λ c. search needs) open-requires returns returns-2)

@@ -56,17 +56,8 @@ big c =
     let r = b .before .before .before .pre .1 in
     (simp (div-one, t, ← b .nearest-to .ensures .0) at (r .exponential), simp (div-one, t, ← b .nearest-to .ensures .0) at (r .answer))
 
-sub-e : tie.Need-sub-e
-sub-e c = search needs
-
-add-e : tie.Need-add-e
-add-e c = search needs
-
 parts-requires : tie.Need-parts-requires
 parts-requires c κs = exponential-sum single _ shorter32 (big c .0)
-
-exponential-requires : tie.Need-exponential-requires
-exponential-requires c κs = search needs
 
 raised-requires : tie.Need-raised-requires
 raised-requires c κs =
@@ -86,9 +77,6 @@ small c =
 
 parts-requires-2 : tie.Need-parts-requires-2
 parts-requires-2 c κs = within-number single (two (c .before .before .args .p)) (lit< tt) (c .before .before .pre .0)
-
-exponential-requires-2 : tie.Need-exponential-requires-2
-exponential-requires-2 c κs = search needs
 
 raised-requires-2 : tie.Need-raised-requires-2
 raised-requires-2 c κs =
@@ -112,13 +100,13 @@ exp2-spec =
     (tie.spec
     float-to-bits-j
     nearest-to-requires
-    sub-e
-    add-e
+    (λ c. search needs)
+    (λ c. search needs)
     parts-requires
-    exponential-requires
+    (λ c κs. search needs)
     raised-requires
     parts-requires-2
-    exponential-requires-2
+    (λ c κs. search needs)
     raised-requires-2
     returns
     returns-2)

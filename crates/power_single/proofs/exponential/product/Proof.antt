@@ -4,12 +4,9 @@ use borrow.Author.Needs.{needs}
 use Rattle.power_single.proofs.exponential.product.Statement.{statement}
 use Rattle.power_single.proofs.exponential.product.Tie as tie
 
-leading-requires : tie.Need-leading-requires
-leading-requires c κs = search needs
-
 returns : tie.Need-returns
 unfolding productOf
 returns c = cc
 
 pub product-spec : {M : Type 1} → statement M
-product-spec = tie.close (tie.spec leading-requires returns)
+product-spec = tie.close (tie.spec (λ c κs. search needs) returns)

@@ -27,15 +27,6 @@ none y = le-ltb 0x80000000 (y % 2 ^ 31) (omega arith)
 huge : (c : tie.Then1) → ltb 0x4d000000 (c .before .before .args .y % 2 ^ 31) ≡ true
 huge c = let y = c .before .before .args .y in lt-ltb 0x4d000000 (y % 2 ^ 31) (omega (arith, size32 y, c .if1 .taken))
 
-sign-requires : tie.Need-sign-requires
-sign-requires c κs = search needs
-
-over-flow-requires : tie.Need-over-flow-requires
-over-flow-requires c κs = search needs
-
-to-word32-requires : tie.Need-to-word32-requires
-to-word32-requires c κs = search needs
-
 -- x below 1: by the sign of y
 returns : tie.Need-returns
 unfolding openOf
@@ -53,12 +44,6 @@ returns c =
       le-leb _ _ (d .if3 .taken),
     )
 
-under-flow-requires : tie.Need-under-flow-requires
-under-flow-requires c κs = search needs
-
-to-word32-requires-2 : tie.Need-to-word32-requires-2
-to-word32-requires-2 c κs = search needs
-
 returns-2 : tie.Need-returns-2
 unfolding openOf
 returns-2 c =
@@ -74,12 +59,6 @@ returns-2 c =
       lt-ltb _ _ (rw size32 at (d .before .if2 .taken)),
       lt-leb _ _ (d .if3 .left),
     )
-
-under-flow-requires-2 : tie.Need-under-flow-requires-2
-under-flow-requires-2 c κs = search needs
-
-to-word32-requires-3 : tie.Need-to-word32-requires-3
-to-word32-requires-3 c κs = search needs
 
 -- x above 1
 returns-3 : tie.Need-returns-3
@@ -99,12 +78,6 @@ returns-3 c =
       le-leb _ _ (d .if5 .taken),
     )
 
-over-flow-requires-2 : tie.Need-over-flow-requires-2
-over-flow-requires-2 c κs = search needs
-
-to-word32-requires-4 : tie.Need-to-word32-requires-4
-to-word32-requires-4 c κs = search needs
-
 returns-4 : tie.Need-returns-4
 unfolding openOf
 returns-4 c =
@@ -121,9 +94,6 @@ returns-4 c =
       lt-ltb _ _ (rw size32 at (d .before .if4 .taken)),
       lt-leb _ _ (d .if5 .left),
     )
-
-of-word32-requires : tie.Need-of-word32-requires
-of-word32-requires c κs = search needs
 
 -- ---- the chain's end
 
@@ -193,20 +163,20 @@ pub open-spec : {M : Type 1} → statement M
 open-spec =
     tie.close
     (tie.spec
-    sign-requires
-    over-flow-requires
-    to-word32-requires
+    (λ c κs. search needs)
+    (λ c κs. search needs)
+    (λ c κs. search needs)
     returns
-    under-flow-requires
-    to-word32-requires-2
+    (λ c κs. search needs)
+    (λ c κs. search needs)
     returns-2
-    under-flow-requires-2
-    to-word32-requires-3
+    (λ c κs. search needs)
+    (λ c κs. search needs)
     returns-3
-    over-flow-requires-2
-    to-word32-requires-4
+    (λ c κs. search needs)
+    (λ c κs. search needs)
     returns-4
-    of-word32-requires
+    (λ c κs. search needs)
     log-of-requires
     product-requires
     finish-requires

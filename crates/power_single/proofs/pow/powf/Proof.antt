@@ -10,20 +10,11 @@ use borrow.Author.Needs.{needs}
 use Rattle.power_single.proofs.pow.powf.Statement.{statement}
 use Rattle.power_single.proofs.pow.powf.Tie as tie
 
-sort-powf-requires : tie.Need-sort-powf-requires
-sort-powf-requires c κs = search needs
-
-enum-known-s : tie.Need-enum-known-s
-enum-known-s c = search needs
-
 cast-result : tie.Need-cast-result
 cast-result c =
     let b = c .before .before .before in
     let a = b .before in
     record { fits = settled-word binary32 (a .args .x) (a .args .y) (b .sort-powf .result) _ (c .before .s .given .1) (b .sort-powf .ensures) (a .fits .x .fits) }
-
-enum-known-s-2 : tie.Need-enum-known-s-2
-enum-known-s-2 c = search needs
 
 open-requires : tie.Need-open-requires
 open-requires c κs =
@@ -46,10 +37,10 @@ pub powf-spec : {M : Type 1} → statement M
 powf-spec =
     tie.close
     (tie.spec
-    sort-powf-requires
-    enum-known-s
+    (λ c κs. search needs)
+    (λ c. search needs)
     cast-result
-    enum-known-s-2
+    (λ c. search needs)
     open-requires
     returns
     returns-2)

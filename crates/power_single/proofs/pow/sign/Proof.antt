@@ -4,9 +4,6 @@ use borrow.Author.Needs.{needs}
 use Rattle.power_single.proofs.pow.sign.Statement.{statement}
 use Rattle.power_single.proofs.pow.sign.Tie as tie
 
-of-word32-requires : tie.Need-of-word32-requires
-of-word32-requires c κs = search needs
-
 returns : tie.Need-returns
 unfolding signOf
 returns c = simp (c .before .if1 .taken, c .of-word32 .ensures)
@@ -16,4 +13,4 @@ unfolding signOf
 returns-2 c = simp (c .if1 .left)
 
 pub sign-spec : {M : Type 1} → statement M
-sign-spec = tie.close (tie.spec of-word32-requires returns returns-2)
+sign-spec = tie.close (tie.spec (λ c κs. search needs) returns returns-2)

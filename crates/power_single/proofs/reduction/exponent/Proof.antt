@@ -10,9 +10,6 @@ use borrow.Author.Needs.{needs}
 use Rattle.power_single.proofs.reduction.exponent.Statement.{statement}
 use Rattle.power_single.proofs.reduction.exponent.Tie as tie
 
-unbiased-requires : tie.Need-unbiased-requires
-unbiased-requires c κs = search needs
-
 int-to-float-result : tie.Need-int-to-float-result
 int-to-float-result c =
     let a = c .before .before in
@@ -24,4 +21,4 @@ unfolding exponentOf
 returns c = ap (ofInt binary32) (rw (c .before .unbiased .ensures) (unbiased-back 151 (c .before .before .args .e) (omega arith) (c .before .before .pre)))
 
 pub exponent-spec : {M : Type 1} → statement M
-exponent-spec = tie.close (tie.spec unbiased-requires int-to-float-result returns)
+exponent-spec = tie.close (tie.spec (λ c κs. search needs) int-to-float-result returns)
