@@ -72,8 +72,8 @@ module _ (f : Format) (g : Fine f) (small : f .digits ≤ 60) where
       at-most : (a b : ℕ) → ¬ (a < b) → b ≤ a
       at-most a b l = omega arith
 
-  root-order : RootRises f
-  root-order = record { nonnegative = nonnegative; rises = in-order }
+  pub request-12-order : RootRises f
+  request-12-order = record { nonnegative = nonnegative; rises = in-order }
     where
       nonnegative : (x : ℕ) → Nonnegative f x → Nonnegative f (rootWord f x)
       nonnegative x (inl z) = inl (ap (magnitude f) (root-zero f x z) ∙ z)
@@ -103,8 +103,8 @@ module _ (f : Format) (g : Fine f) (small : f .digits ≤ 60) where
       sym (raised (suc n) y x hy hx (sym (mul-one (units f x)) ∙ sym e ∙ ap (λ (z : ℕ). units f y * z) (sym (four-pow (suc n)))))
       ∙ sym (mul-one (units f (rootWord f x)))
 
-  root-fours : RootFour f
-  root-fours = record {
+  pub request-12-four : RootFour f
+  request-12-four = record {
     value = value;
     word = λ k x y hx hy e. sym (scaled-size f (rootWord f x) k (below x hx)
         ∙ rounded-exact f (rootWord f y) (units f (rootWord f x) * up k) (down k) (g .least) (below y hy) (down-pos k) (value k x y hx hy e));
@@ -116,16 +116,16 @@ module _ (f : Format) (g : Fine f) (small : f .digits ≤ 60) where
 -- ---- at each width
 
 pub request-12-order-32 : RootRises binary32
-request-12-order-32 = root-order binary32 (omega arith) (omega arith)
+request-12-order-32 = request-12-order binary32 (omega arith) (omega arith)
 
 pub request-12-order-64 : RootRises binary64
-request-12-order-64 = root-order binary64 (omega arith) (omega arith)
+request-12-order-64 = request-12-order binary64 (omega arith) (omega arith)
 
 pub request-12-four-32 : RootFour binary32
-request-12-four-32 = root-fours binary32 (omega arith) (omega arith)
+request-12-four-32 = request-12-four binary32 (omega arith) (omega arith)
 
 pub request-12-four-64 : RootFour binary64
-request-12-four-64 = root-fours binary64 (omega arith) (omega arith)
+request-12-four-64 = request-12-four binary64 (omega arith) (omega arith)
 
 -- ---- changing the sign of x changes the sign bit of the power for odd y, and no bit for even y
 
