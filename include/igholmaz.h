@@ -71,7 +71,8 @@ igholmaz_answer igholmaz_scalbnf(uint32_t x, int32_t n);
 igholmaz_answer igholmaz_scalbnd(uint64_t x, int32_t n);
 
 /* The square root rounded once, ties to even. The root of a zero is that zero, of +infinity +infinity, of
- * a negative nonzero number NaN. */
+ * a negative nonzero number NaN. It never falls when a nonnegative x grows; where x and 4^k * x are positive
+ * normal numbers, the root of the second is 2^k times that of the first, bit for bit. */
 igholmaz_answer igholmaz_sqrtf(uint32_t x);
 igholmaz_answer igholmaz_sqrtd(uint64_t x);
 
@@ -86,7 +87,9 @@ igholmaz_partial igholmaz_partial_sqrtd(uint64_t x, uint32_t rounds);
 igholmaz_sorted igholmaz_sort_powf(uint32_t x, uint32_t y);
 igholmaz_sorted igholmaz_sort_powd(uint64_t x, uint64_t y);
 
-/* x to the y: the settled word, or for open operands the same operations in the same order as libm.rs. */
+/* x to the y: the settled word, or for open operands the same operations in the same order as libm.rs. It is
+ * NaN exactly where x or y is one, y is no zero and x is not 1, and where x is finite and below 0 and y finite
+ * and not whole. The other sign of x changes the sign bit for odd y, and no bit for even y. */
 uint32_t igholmaz_powf(uint32_t x, uint32_t y);
 uint64_t igholmaz_powd(uint64_t x, uint64_t y);
 

@@ -51,6 +51,9 @@ macro_rules! words {
         }
 
         /// The square root, rounded once, ties to even.
+        ///
+        /// It never falls when a nonnegative operand grows; where x and 4^k·x are positive normal numbers, the root
+        /// of the second is 2^k times that of the first, bit for bit.
         #[doc = example!("assert_eq!(", stringify!($sqrt), "(9", $float, ".to_bits()), 3", $float, ".to_bits());")]
         #[inline]
         pub fn $sqrt(x: $word) -> $word {
@@ -83,6 +86,9 @@ macro_rules! words {
         }
 
         /// x to the y.
+        ///
+        /// It is NaN exactly where x or y is one, y is no zero and x is not 1, and where x is finite and below 0 and
+        /// y finite and not whole. The other sign of x changes the sign bit for odd y, and no bit for even y.
         #[doc = example!("assert_eq!(", stringify!($pow), "(2", $float, ".to_bits(), 10", $float, ".to_bits()), 1024", $float, ".to_bits());")]
         #[inline]
         pub fn $pow(x: $word, y: $word) -> $word {
