@@ -3,17 +3,17 @@ use Prim.Native.Nat.{ℕ, zero, suc, _+_, _*_, _%_, _^_, _≤_, _<_, zero-le}
 use mathlib.Core.Path.{_≡_, refl, sym, ap, subst, _∙_}
 use mathlib.Core.Logic.{_⊎_, inl, inr}
 use mathlib.Core.Bool.{Bool, true, false, not, _&&_, _||_, cond, true≢false}
-use native.Mathlib.Nat.{le-trans, le-refl, zero-lt-suc, mod-le, mod-eq-of-lt, mul-add-mod-self-right, zero-mod}
+use native.Mathlib.Nat.{le-trans, le-refl, zero-lt-suc, mod-le, mod-eq-of-lt, add-mod-left, zero-mod}
 use native.Mathlib.Omega.{arith}
 use lib.Dec.{ltb, eqb, lit≤, lit<}
 use lib.Ieee as Ieee
 use borrow.Author.Tests.{ltb-true, ltb-false, leb-false, eqb-true, not-true, not-false, le-ltb}
 use Rattle.words.specs.Format.{Format, low, top, infinity, one, quiet, magnitude, negative, isNaN, ours}
-use Rattle.words.proofs.Words.{infinity-some, infinity-below, sign-and-size}
+use Rattle.words.proofs.Words.{sign-and-size}
 use Rattle.words.proofs.Rounded.{units-nothing}
 use Rattle.root.specs.Root.{rootWord}
-use Rattle.root.proofs.Words.{Fine, root-infinity}
-use Rattle.root.proofs.Order.{root-rises}
+use Rattle.root.proofs.Words.{Fine}
+use Rattle.root.proofs.Order.{root-most}
 use Rattle.power.specs.Numbers.{whole, odd}
 use Rattle.power.specs.Sorting.{over, square, turned, atInfinity, onEdge, atEdge}
 use Rattle.power.specs.Width.{Width}
@@ -37,13 +37,7 @@ module _ (f : Format) (m : ℕ) (h : m ≤ infinity f) where
   plus-number = le-ltb (infinity f) (m % top f) (le-trans (mod-le m (top f)) h)
 
   minus-number : isNaN f (top f + m) ≡ false
-  minus-number = ap (λ (n : ℕ). ltb (infinity f) n) (size (top f) m) ∙ plus-number
-    where
-      size : (t m : ℕ) → (t + m) % t ≡ m % t
-      size t m = ap (λ (n : ℕ). n % t) (once t m) ∙ mul-add-mod-self-right 1 t m
-        where
-          once : (t m : ℕ) → t + m ≡ 1 * t + m
-          once t m = omega arith
+  minus-number = ap (λ (n : ℕ). ltb (infinity f) n) (add-mod-left (top f) m) ∙ plus-number
 
 one-below : (f : Ieee.Format) → one (ours f) ≤ infinity (ours f)
 one-below Ieee.binary32 = lit≤ tt
@@ -59,16 +53,6 @@ whole-some : (f : Format) (m : ℕ) → whole f m ≡ false → 0 < m
 unfolding whole
 whole-some f zero e = absurd (true≢false (sym (ap (λ (u : ℕ). eqb (u % 2 ^ low f) 0) (units-nothing f) ∙ ap (λ (u : ℕ). eqb u 0) (zero-mod (2 ^ low f))) ∙ e))
 whole-some f (suc m) e = zero-lt-suc m
-
--- the root of a number whose sign is clear is one
-root-number : (f : Format) → Fine f → f .digits ≤ 60 → (x : ℕ) → x ≤ infinity f → isNaN f (rootWord f x) ≡ false
-root-number f g small x h = plus-number f (rootWord f x) (subst (λ (n : ℕ). rootWord f x ≤ n) of-infinity (root-rises f g small x (infinity f) h (le-refl (infinity f))))
-  where
-    some : (n : ℕ) → 0 < n → n ≡ 0 → ⊥
-    some n h e = omega arith
-
-    of-infinity : rootWord f (infinity f) ≡ infinity f
-    of-infinity = root-infinity f (infinity f) (λ e. some (infinity f) (infinity-some f) (sym (mod-eq-of-lt (infinity-below f)) ∙ e)) refl
 
 numbers : (w : Width) → Known w → OpenNumbers w
 numbers w K = record { answer = λ x y s p. open-number w K x y (p .base) (p .not-one) (p .exponent) s; way = walked w K }
@@ -157,7 +141,7 @@ module _ (w : Width) (fine : Fine (ours (w .format))) (small : ours (w .format) 
       rule-5-one = λ h. silent x (le-ltb (infinity f) ix h);
       rule-5-minus-one = λ h. silent (over (w .format) x) (over-number (w .format) x (le-ltb (infinity f) ix h));
       rule-5-two = λ h. silent (square (w .format) x) (square-number (w .format) x (le-ltb (infinity f) ix h));
-      rule-5-half = λ h n. silent (rootWord f x) (root-number f fine small x (positive n h));
+      rule-5-half = λ h n. silent (rootWord f x) (plus-number f (rootWord f x) (root-most f fine small x (positive n h)));
       rule-6 = λ l e. at-edge l;
       rule-7 = λ l e n k t. rule-7 n (off-edge f ix e .0) (finite-base f x y l e) (off-edge f ix e .2) (l .finite) k;
       open-plus = λ l e n. at-open l e false;

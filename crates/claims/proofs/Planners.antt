@@ -2,7 +2,7 @@
 use Prim.Native.Nat.{ℕ, suc, _-_, _*_, _^_, _≤_, _<_}
 use mathlib.Core.Path.{_≡_, refl, sym, ap, subst, _∙_}
 use mathlib.Core.Logic.{_⊎_, inl, inr, ⊎-elim}
-use native.Mathlib.Nat.{le-refl, le-of-lt, lt-of-le-of-lt, lt-of-lt-of-le, eq-zero-or-pos, mul-one, zero-mod, mod-eq-of-lt}
+use native.Mathlib.Nat.{le-of-lt, lt-of-le-of-lt, lt-of-lt-of-le, eq-zero-or-pos, mul-one, zero-mod, mod-eq-of-lt}
 use native.Mathlib.Decide.{decLt}
 use native.Mathlib.Omega.{arith}
 use lib.IntN.{ℤ, pos, negsuc}
@@ -17,9 +17,9 @@ use Rattle.words.proofs.Grid.{rises, rises-le}
 use Rattle.words.proofs.Rounded.{rounded-exact}
 use Rattle.root.specs.Root.{rootWord}
 use Rattle.root.proofs.Engine.{four-pow}
-use Rattle.root.proofs.Words.{Fine, root-zero, root-infinity}
+use Rattle.root.proofs.Words.{Fine, root-zero}
 use Rattle.root.proofs.Sentences.{root-normal}
-use Rattle.root.proofs.Order.{root-rises, root-four}
+use Rattle.root.proofs.Order.{root-of-infinity, root-rises, root-most, root-four}
 use Rattle.scale.proofs.Scaled.{scaled-size}
 use Rattle.power.specs.Power.{single, double}
 use Rattle.sign.specs.Sign.{Signs}
@@ -39,15 +39,6 @@ module _ (f : Format) (g : Fine f) (small : f .digits ≤ 60) where
   of-zero : rootWord f 0 ≡ 0
   of-zero = root-zero f 0 (zero-mod (top f))
 
-  of-infinity : rootWord f (infinity f) ≡ infinity f
-  of-infinity = root-infinity f (infinity f) (λ e. none (infinity f) (infinity-some f) (sym (own (infinity f) (le-refl (infinity f))) ∙ e)) refl
-    where
-      none : (n : ℕ) → 0 < n → n ≡ 0 → ⊥
-      none n h e = omega arith
-
-  most : (x : ℕ) → x ≤ infinity f → rootWord f x ≤ infinity f
-  most x h = subst (λ (z : ℕ). rootWord f x ≤ z) of-infinity (root-rises f g small x (infinity f) h (le-refl (infinity f)))
-
   finite : (n : ℕ) → n < infinity f → rootWord f n < infinity f
   finite n h = ⊎-elim
       (λ z. subst (λ (k : ℕ). k < infinity f) (sym (ap (rootWord f) z ∙ of-zero)) (infinity-some f))
@@ -57,7 +48,7 @@ module _ (f : Format) (g : Fine f) (small : f .digits ≤ 60) where
   -- the root's size is the size's root
   size-root : (x : ℕ) → Nonnegative f x → magnitude f (rootWord f x) ≡ rootWord f (magnitude f x)
   size-root x (inl z) = ap (magnitude f) (root-zero f x z) ∙ z ∙ sym (ap (rootWord f) z ∙ of-zero)
-  size-root x (inr h) = own (rootWord f x) (most x h) ∙ ap (rootWord f) (sym (own x h))
+  size-root x (inr h) = own (rootWord f x) (root-most f g small x h) ∙ ap (rootWord f) (sym (own x h))
 
   -- more units, a larger word, and the other way round
   units-rise : (m n : ℕ) → m ≤ n → units f m ≤ units f n
@@ -77,10 +68,10 @@ module _ (f : Format) (g : Fine f) (small : f .digits ≤ 60) where
     where
       nonnegative : (x : ℕ) → Nonnegative f x → Nonnegative f (rootWord f x)
       nonnegative x (inl z) = inl (ap (magnitude f) (root-zero f x z) ∙ z)
-      nonnegative x (inr h) = inr (most x h)
+      nonnegative x (inr h) = inr (root-most f g small x h)
 
       in-order : (x y : ℕ) → Nonnegative f x → Nonnegative f y → AtMost f x y → AtMost f (rootWord f x) (rootWord f y)
-      in-order x y hx hy (inl e) = inl (ap (rootWord f) e ∙ of-infinity)
+      in-order x y hx hy (inl e) = inl (ap (rootWord f) e ∙ root-of-infinity f g small)
       in-order x y hx hy (inr t) =
           let m = magnitude f x in
           let n = magnitude f y in

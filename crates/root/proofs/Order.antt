@@ -1,15 +1,15 @@
 -- A root never falls when its operand grows, and 4 ^ k times an operand has 2 ^ k times its root: over any format. Assumes nothing.
 -- Both are read off x = W * 4 ^ h: a larger x has a larger h, or the same h and a larger W; 4 ^ k * x has the same W.
 use Prim.Native.Nat.{ℕ, _+_, _-_, _*_, _%_, _^_, _≤_, _<_, zero-le}
-use mathlib.Core.Path.{_≡_, sym, ap, subst, _∙_}
+use mathlib.Core.Path.{_≡_, refl, sym, ap, subst, _∙_}
 use mathlib.Core.Logic.{⊎-elim}
-use native.Mathlib.Nat.{le-of-eq, le-of-lt, lt-of-le-of-lt, lt-of-lt-of-le, mul-le-mul-left, mul-le-mul-right, le-of-mul-le-mul-right, eq-or-lt-of-le, eq-zero-or-pos, zero-mod, mod-eq-of-lt}
+use native.Mathlib.Nat.{le-refl, le-of-eq, le-of-lt, lt-of-le-of-lt, lt-of-lt-of-le, mul-le-mul-left, mul-le-mul-right, le-of-mul-le-mul-right, eq-or-lt-of-le, eq-zero-or-pos, zero-mod, mod-eq-of-lt}
 use native.Mathlib.Omega.{arith}
 use lib.Pow.{pow-add}
 use lib.Ieee.{size}
 use lib.Ieee.Digits.{size-lt, size-le}
 use Rattle.words.specs.Format.{Format, hid, top, infinity, units}
-use Rattle.words.proofs.Words.{infinity-below}
+use Rattle.words.proofs.Words.{infinity-some, infinity-below}
 use Rattle.words.proofs.Units.{units-step}
 use Rattle.words.proofs.Grid.{rises-le}
 use Rattle.root.specs.Root.{significand, halves, whole, lifted, rootAt, rootWord}
@@ -69,6 +69,9 @@ module _ (f : Format) (g : Fine f) (small : f .digits ≤ 60) where
       (at-rises f g small (lifted f (units f x)) (lifted f (units f y)) (finite-split f x g some hx .0) (finite-split f y g some-y h .0)
       (mul-le-mul-right (2 ^ (f .emax - 1)) (rises-le (units f) (units-step f (g .least)) x y le)))
 
+  pub root-of-infinity : rootWord f (infinity f) ≡ infinity f
+  root-of-infinity = root-infinity f (infinity f) (not-zero (infinity f) (infinity-some f) (le-refl (infinity f))) refl
+
   -- The words from +0 to +inf stand in the order of their values, and so do the words of their roots.
   pub root-rises : (x y : ℕ) → x ≤ y → y ≤ infinity f → rootWord f x ≤ rootWord f y
   root-rises x y le h = ⊎-elim zero-first (λ some. ⊎-elim (λ e. last some e) (λ l. finite-rises x y some le l) (eq-or-lt-of-le h)) (eq-zero-or-pos x)
@@ -76,14 +79,14 @@ module _ (f : Format) (g : Fine f) (small : f .digits ≤ 60) where
       zero-first : x ≡ 0 → rootWord f x ≤ rootWord f y
       zero-first e = subst (λ (z : ℕ). z ≤ rootWord f y) (sym (root-zero f x (ap (λ (z : ℕ). z % top f) e ∙ zero-mod (top f)) ∙ e)) zero-le
 
-      infinite : (z : ℕ) → 0 < z → z ≡ infinity f → rootWord f z ≡ infinity f
-      infinite z some e = root-infinity f z (not-zero z some (le-of-eq e)) e ∙ e
-
       last : 0 < x → y ≡ infinity f → rootWord f x ≤ rootWord f y
-      last some e = rw (infinite y (lt-of-lt-of-le some le) e) (⊎-elim
-          (λ i. le-of-eq (infinite x some i))
+      last some e = rw (e, root-of-infinity) (⊎-elim
+          (λ i. le-of-eq (ap (rootWord f) i ∙ root-of-infinity))
           (λ l. le-of-lt (subst (λ (z : ℕ). z < infinity f) (sym (finite-is x some l)) (root-below f x g small some l)))
           (eq-or-lt-of-le (subst (λ (z : ℕ). x ≤ z) e le)))
+
+  pub root-most : (x : ℕ) → x ≤ infinity f → rootWord f x ≤ infinity f
+  root-most x h = subst (λ (z : ℕ). rootWord f x ≤ z) root-of-infinity (root-rises x (infinity f) h (le-refl (infinity f)))
 
   -- ---- 4 ^ k times the operand: h grows by k, and no digit changes
 
