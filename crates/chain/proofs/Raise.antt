@@ -148,7 +148,8 @@ module _ (w : Width) (K : Known w) where
     raised-number true k =
         let j : ℕ = (x / B + (whole w - n) * h) % (2 * t) in
         let e = subℕ (whole w - n) (whole w) in
-        pick (leb t j) (ltb j h) j (mul f z (power e)) (mul-number f z e (finite-number z (b .num .finite))) (λ c. rw down-word (lower (rw down-word at (nleb→lt t j c))))
+        pick (leb t j) (ltb j h) j (mul f z (power e)) (mul-number f z e (finite-number z (b .num .finite)))
+        (λ c. rw down-word (lower (rw down-word at (nleb→lt t j c))))
     raised-number false k =
         let j : ℕ = (x / B + (whole w + n) * h) % (2 * t) in
         let e = subℕ (whole w + n) (whole w) in
