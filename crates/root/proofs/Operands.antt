@@ -2,15 +2,16 @@
 use Prim.Native.Nat.{ℕ, zero, suc, _+_, _-_, _*_, _/_, _%_, _^_, _≤_, _<_}
 use mathlib.Core.Path.{_≡_, refl, sym, ap, subst, _∙_}
 use mathlib.Core.Logic.{_⊎_, inl, inr, ⊎-elim}
-use native.Mathlib.Nat.{lt-of-le-of-lt, lt-of-not-le, mul-assoc, mul-le-mul-right, mul-lt-mul-of-pos-right, mul-div-cancel, pow-succ', add-sub-of-le, mul-pos}
+use native.Mathlib.Nat.{lt-of-le-of-lt, mul-assoc, mul-le-mul-right, mul-lt-mul-of-pos-right, mul-div-cancel, pow-succ', add-sub-of-le, mul-pos}
 use native.Mathlib.Decide.{decLt}
 use native.Mathlib.Omega.{arith}
 use borrow.Author.Tests.{lt-ltb, le-ltb}
 use lib.IntN.{ℤ, pos, negsuc, subℕ, _+ℤ_}
 use lib.Signed.{shrZ, mag}
 use lib.Pow.{pow-pos, pow-add}
+use lib.Count.{leadingZeros, leading-top, leading-length, leading-unique}
 use lib.Ieee.{size}
-use lib.Ieee.Digits.{size-lt, size-reaches, size-le}
+use lib.Ieee.Digits.{size-lt, size-le}
 use Rattle.root.specs.Root.{halves, whole}
 use Rattle.root.specs.Engine.{oddZ, Shifts, Split}
 use Rattle.root.proofs.Engine.{powers, four-pow}
@@ -77,30 +78,29 @@ shifted-value m s n h = mul-assoc m (2 ^ s) (2 ^ (n - s)) ∙ ap (λ (z : ℕ). 
 pub shifts-few : (p m s : ℕ) → 0 < m → Shifts p m s → s < p
 shifts-few p m s h a = pow-lt-inv s p (omega (arith, a .below, mul-le-mul-right (2 ^ s) h))
 
--- there are such shifts
-pub shifts-exist : (p m : ℕ) → 0 < m → m < 2 ^ p → Shifts p m (p - size m)
+-- there are such shifts: as many as m has leading zeros among p digits
+pub shifts-exist : (p m : ℕ) → 0 < m → m < 2 ^ p → Shifts p m (leadingZeros p m)
 shifts-exist p m h b =
-    let z : ℕ = size m in
-    let s : ℕ = p - z in
-    let low : z ≤ p = size-le m p b in
-    let some : 0 < z = lt-of-not-le (λ (g : z ≤ 0). omega (arith, subst (λ (j : ℕ). m < 2 ^ j) (none g) (size-lt m))) in
-    let e : 2 ^ z * 2 ^ s ≡ 2 ^ p = sym (pow-add 2 z s) ∙ ap (λ (j : ℕ). 2 ^ j) (add-sub-of-le low) in
-    let t : 2 ^ z ≡ 2 * 2 ^ (z - 1) = ap (λ (j : ℕ). 2 ^ j) (up some) ∙ pow-succ' 2 (z - 1) in
+    let t = leading-top p m h b in
+    let j = t .0 in
+    let s : ℕ = leadingZeros p m in
+    let total : suc j + s ≡ p = omega (arith, t .1) in
+    let e : 2 ^ suc j * 2 ^ s ≡ 2 ^ p = sym (pow-add 2 (suc j) s) ∙ ap (λ (k : ℕ). 2 ^ k) total in
     record {
-      above = omega (arith, e, ap (λ (j : ℕ). j * 2 ^ s) t, mul-le-mul-right (2 ^ s) (size-reaches m (z - 1) (omega arith)));
-      below = omega (arith, e, mul-lt-mul-of-pos-right (size-lt m) (pow-pos s));
+      above = omega (arith, e, ap (λ (k : ℕ). k * 2 ^ s) (pow-succ' 2 j), mul-le-mul-right (2 ^ s) (t .2));
+      below = omega (arith, e, mul-lt-mul-of-pos-right (t .3) (pow-pos s));
     }
-  where
-    none : size m ≤ 0 → size m ≡ 0
-    none g = omega arith
 
-    up : 0 < size m → size m ≡ suc (size m - 1)
-    up g = omega arith
+-- among d digits more there are d zeros more
+pub leading-wider : (p d m : ℕ) → m < 2 ^ p → leadingZeros p m + d ≡ leadingZeros (p + d) m
+leading-wider p d m b =
+    let l = leading-length p m b in
+    leading-unique (p + d) m (leadingZeros p m + d) (l .0) (omega (arith, l .1)) (l .2) (l .3)
 
 -- so an operand m * 2 ^ n with room for its shifts is split, and its exponent is no more than n
 pub operand-split : (p m n : ℕ) → 0 < m → m < 2 ^ p → p ≤ n → Split p (m * 2 ^ n) (whole p (m * 2 ^ n)) (halves p (m * 2 ^ n)) × (2 * halves p (m * 2 ^ n) ≤ n)
 operand-split p m n h b room =
-    let s : ℕ = p - size m in
+    let s : ℕ = leadingZeros p m in
     let a = shifts-exist p m h b in
     let few : s ≤ n = omega (arith, shifts-few p m s h a) in
     let one : Split p (m * 2 ^ n) (m * 2 ^ s * 2 ^ ((n - s) % 2)) ((n - s) / 2) = subst (λ (z : ℕ). Split p z (m * 2 ^ s * 2 ^ ((n - s) % 2)) ((n - s) / 2)) (shifted-value m s n few) (split p (m * 2 ^ s) (n - s) (a .above) (a .below)) in

@@ -14,19 +14,12 @@ pub struct Parts {
     pub half: i32,
 }
 
-// How far m is to be shifted up to have p digits, a bit at a time.
+// How far m is to be shifted up to have p digits; a number of p digits has 64 - p leading zeros.
 fn shift_up(m: u64, p: u32) -> u32
     requires { ⌜ (0 < m) × (m < 2 ^ p) × (p ≤ 60) ⌝ }
     ensures { λ r. ⌜ Shifts p m r ⌝ }
 {
-    let full: u64 = 1 << p;
-    let mut w = m + m;
-    let mut s: u32 = 0;
-    while w < full {
-        w = w + w;
-        s += 1;
-    }
-    s
+    u64::leading_zeros(m) - (64 - p)
 }
 
 // n less b, with its sign.
