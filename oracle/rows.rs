@@ -9,6 +9,9 @@ use std::hint::black_box;
 /// The sides in their order in every row.
 pub const SIDES: [&str; 4] = ["original without sse", "original as it stands", "C library", "port"];
 
+/// The place of the port among them.
+pub const PORT: usize = 3;
+
 /// Operands of one pass: as many as a batch takes.
 pub const PASS: usize = face::BATCH_MOST;
 
@@ -17,14 +20,14 @@ pub struct Row {
     pub operands: &'static str,
     /// The most that the port's time may be of that of the original without sse.
     pub target: Option<f64>,
-    pub sides: [Box<dyn FnMut()>; 4],
+    pub sides: [Pass; 4],
 }
 
+/// One pass over a row's operands.
+pub type Pass = Box<dyn FnMut()>;
+
 /// One call for each pair of operands.
-fn each<X: Copy + 'static, Y: Copy + 'static>(
-    pairs: &[(X, Y)],
-    call: impl Fn(X, Y) -> X + 'static,
-) -> Box<dyn FnMut()> {
+fn each<X: Copy + 'static, Y: Copy + 'static>(pairs: &[(X, Y)], call: impl Fn(X, Y) -> X + 'static) -> Pass {
     let pairs = pairs.to_vec();
     Box::new(move || {
         for &(x, y) in black_box(&pairs) {
@@ -37,7 +40,7 @@ fn each<X: Copy + 'static, Y: Copy + 'static>(
 fn whole<X: Copy + Default + 'static, Y: Copy + 'static>(
     pairs: &[(X, Y)],
     run: impl Fn(&[X], &[Y], &mut [X]) + 'static,
-) -> Box<dyn FnMut()> {
+) -> Pass {
     let (xs, ys): (Vec<X>, Vec<Y>) = pairs.iter().copied().unzip();
     let mut out = vec![X::default(); xs.len()];
     Box::new(move || {
