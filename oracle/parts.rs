@@ -20,8 +20,10 @@ pub fn parts(scale: Scale) -> Vec<Part> {
             drawing(&mut all, scale, op.name, quick, if single { 24 } else { 30 }, move |d, t| {
                 t.single(op, draws::root(f, d), 0)
             });
-            if single && scale.full {
-                every(&mut all, scale, op.name, "every word", 0..1 << 32, 1, |x, t| t.single(op, x, 0));
+            if single {
+                let (label, words) =
+                    if scale.full { ("every word", 0..1 << 32) } else { ("every subnormal word", 1..f.hid()) };
+                every(&mut all, scale, op.name, label, words, 1, |x, t| t.single(op, x, 0));
             }
         }
         let sparse = if scale.full || single { 1 } else { 32 };
@@ -50,6 +52,11 @@ pub fn parts(scale: Scale) -> Vec<Part> {
             let k = if d.below(16) == 0 { d.next() as u32 } else { d.below(u64::from(f.p) + 4) as u32 };
             t.partial(w, draws::root(f, d), k)
         });
+        if single {
+            let most = f.p + 1;
+            let label = format!("every subnormal word, k = {most}");
+            every(&mut all, scale, w.partial.0, &label, 1..f.hid(), 1, move |x, t| t.partial(w, x, most));
+        }
         batches(&mut all, scale, w);
         order_of_roots(&mut all, scale, w);
         roots_by_fours(&mut all, scale, w);
