@@ -53,9 +53,9 @@ pub fn parts(scale: Scale) -> Vec<Part> {
             t.partial(w, draws::root(f, d), k)
         });
         if single {
-            let most = f.p + 1;
-            let label = format!("every subnormal word, k = {most}");
-            every(&mut all, scale, w.partial.0, &label, 1..f.hid(), 1, move |x, t| t.partial(w, x, most));
+            every(&mut all, scale, w.partial.0, "every subnormal word, each k", 1..f.hid(), 1, move |x, t| {
+                (0..=f.p + 1).for_each(|k| t.partial(w, x, k))
+            });
         }
         batches(&mut all, scale, w);
         order_of_roots(&mut all, scale, w);
