@@ -8,16 +8,26 @@ use native.Mathlib.Decide.{decLt}
 use lib.IntN.{ℤ, subℕ}
 use lib.Signed.{shrZ}
 use lib.Pow.{pow-pos, pow-mono, pow-add}
+use lib.Bits.{bitAnd, and-mask}
 use borrow.Author.Tests.{eq-eqb, ne-eqb, lt-ltb, le-ltb}
 use Rattle.words.specs.Format.{ones, Format, format, hid, top, infinity, quiet, units, unitsAt}
 use Rattle.root.specs.Partial.{partialRoot, refused}
 use Rattle.words.specs.Refusal.{done, notPositive, tooManyRounds}
+use Rattle.words.proofs.Digits.{one-shl}
 use Rattle.words.proofs.Words.{infinity-some, infinity-below, quiet-below, below-fits}
 use Rattle.root.specs.Root.{leftAt, digitsAt, wholeOf, lifted, rootAt, rootWord, halves, whole, exponentOf, significand}
 use Rattle.root.specs.Engine.{oddZ, Split, Rounds, Asked, Shifts, Ready}
 use Rattle.words.specs.Rounding.{Held}
 use Rattle.root.proofs.Roots.{digits-unique, near}
 use Rattle.root.proofs.Operands.{halves-is, whole-is, shifts-few, shifted-value, parts-are, sub-shift, operand-split}
+
+-- the fraction of a word of p digits by its mask
+pub mask-is : (p x : ℕ) → p ≤ 53 → bitAnd x (1 * 2 ^ (p - 1) % 2 ^ 64 - 1) ≡ x % 2 ^ (p - 1)
+mask-is p x small = ap (λ (z : ℕ). bitAnd x (z - 1)) (one-shl (p - 1) (omega arith)) ∙ and-mask x (p - 1)
+
+-- where the field of a positive word is 0 the fraction is not
+pub fraction-some : (h x : ℕ) → 0 < x → x / h ≡ 0 → 0 < x % h
+fraction-some h x some e = omega (arith, div-add-mod' x h, some, ap (λ (k : ℕ). k * h) e)
 
 -- what is asked of a format: a significand has a digit, and the exponents reach past its digits
 pub record Fine (f : Format) : Type 0 where
@@ -110,6 +120,14 @@ module _ (f : Format) (x : ℕ) where
   pub root-finite : ¬ (x % top f ≡ 0) → x < infinity f → rootWord f x ≡ rootAt f (lifted f (units f x))
   unfolding rootWord
   root-finite z h = rw (ne-eqb (x % top f) 0 z, le-ltb (infinity f) x (omega arith), ne-eqb x (infinity f) (λ (e : x ≡ infinity f). omega arith))
+
+-- a word below the sign's that is not 0 is no zero
+pub below-top : (x t : ℕ) → x < t → ¬ (x ≡ 0) → ¬ (x % t ≡ 0)
+below-top x t l n = λ e. n (sym (mod-eq-of-lt l) ∙ e)
+
+-- the root of a positive finite word
+pub root-positive : (f : Format) (x : ℕ) → 0 < x → x < infinity f → rootWord f x ≡ rootAt f (lifted f (units f x))
+root-positive f x some l = root-finite f x (below-top x (top f) (lt-trans l (infinity-below f)) (λ e. omega arith)) l
 
 -- what the engine asks of a split operand
 pub split-asked : (p v w h k : ℕ) → p ≤ 60 → k ≤ p + 1 → Split p v w h → Asked p w k

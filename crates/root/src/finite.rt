@@ -1,6 +1,6 @@
-// The root of every word, over the format.
+// The root by the digit engine, over the format.
 ghost use mathlib.Core.Path.{_≡_};
-ghost use Prim.Native.Nat.{ℕ, _+_, _-_, _*_, _^_, _<_};
+ghost use Prim.Native.Nat.{ℕ, _+_, _-_, _*_, _^_, _≤_, _<_};
 ghost use lib.IntN.{subℕ};
 ghost use Rattle.words.specs.Format.{format, units, infinity, top};
 ghost use Rattle.words.specs.Rounding.{Held};
@@ -40,19 +40,16 @@ fn finite_root(x: u64, p: u32, emax: u32) -> u64
     root_bits(parts_of(x, p, emax), p, emax - 1)
 }
 
-// The root of every word x of p digits: the zeros and infinity are their own roots, and above
-// infinity stand the NaNs and all that is negative.
-pub fn root_word(x: u64, p: u32, emax: u32) -> u64
-    requires { ⌜ Held p emax × (x < 2 * top (format p emax)) ⌝ }
+// The root of a word x of p digits that is no positive finite number: the zeros and infinity are their own
+// roots, and above infinity stand the NaNs and all that is negative.
+pub fn special_root(x: u64, p: u32, emax: u32) -> u64
+    requires { ⌜ Held p emax × (x < 2 * top (format p emax)) × (0 < x → infinity (format p emax) ≤ x) ⌝ }
     ensures { λ r. ⌜ r ≡ rootWord (format p emax) x ⌝ }
 {
     let hid = hid_of(p);
     let infinity = infinity_of(p as u64, emax as u64);
     if x == 0 {
         return x;
-    }
-    if x < infinity {
-        return finite_root(x, p, emax);
     }
     if x == infinity {
         return x;
@@ -61,4 +58,16 @@ pub fn root_word(x: u64, p: u32, emax: u32) -> u64
         return x;
     }
     infinity + (hid >> 1)
+}
+
+// The root of every word x of p digits.
+pub fn root_word(x: u64, p: u32, emax: u32) -> u64
+    requires { ⌜ Held p emax × (x < 2 * top (format p emax)) ⌝ }
+    ensures { λ r. ⌜ r ≡ rootWord (format p emax) x ⌝ }
+{
+    let infinity = infinity_of(p as u64, emax as u64);
+    if x != 0 && x < infinity {
+        return finite_root(x, p, emax);
+    }
+    special_root(x, p, emax)
 }

@@ -1,10 +1,10 @@
 -- `root::operand::parts_of` meets its contract: the laws of `Words` at the format of p and emax. Assumes nothing.
 use Prim.Native.Nat.{ℕ, suc, _+_, _-_, _*_, _/_, _%_, _^_, _≤_, _<_}
 use mathlib.Core.Path.{_≡_, subst, ap, _∙_}
-use native.Mathlib.Nat.{mod-eq-of-lt, one-mul, mod-lt, div-lt-iff-lt-mul, div-add-mod'}
+use native.Mathlib.Nat.{mod-eq-of-lt, one-mul, mod-lt, div-lt-iff-lt-mul}
 use native.Mathlib.Omega.{arith}
 use borrow.Author.Needs.{needs}
-use lib.Bits.{bitAnd, and-mask}
+use lib.Bits.{bitAnd}
 use lib.Pow.{pow-pos, pow-mono}
 use lib.IntN.{subℕ}
 use mir.Syntax.{w32}
@@ -13,7 +13,7 @@ use Rattle.words.specs.Format.{format}
 use Rattle.root.specs.Engine.{Shifts, oddZ}
 use Rattle.root.proofs.Signed.{read-back}
 use Rattle.root.proofs.Operands.{shifts-few}
-use Rattle.root.proofs.Words.{held-fine, full, low-parts, high-parts}
+use Rattle.root.proofs.Words.{mask-is, fraction-some, held-fine, full, low-parts, high-parts}
 use Rattle.root.proofs.operand.parts_of.Statement.{statement}
 use Rattle.root.proofs.operand.parts_of.Tie as tie
 
@@ -45,7 +45,7 @@ fields c =
       hid = hid;
       some = pow-pos (p - 1);
       cap = cap;
-      mask = ap (λ (z : ℕ). bitAnd x (z - 1)) hid ∙ and-mask x (p - 1);
+      mask = mask-is p x (c .pre .0 .small);
       under = mod-lt x (pow-pos (p - 1));
       field = div-lt-iff-lt-mul (pow-pos (p - 1)) .1 (omega (arith, c .pre .2));
     }
@@ -67,9 +67,7 @@ sub-t c = omega (arith, fields c)
 
 -- where the field is 0 the fraction is not
 nonzero : (c : tie.Then1) → 0 < c .before .args .x % 2 ^ (c .before .args .p - 1)
-nonzero c =
-    let h = 2 ^ (c .before .args .p - 1) in
-    omega (arith, div-add-mod' (c .before .args .x) h, c .before .pre .1, ap (λ (k : ℕ). k * h) (c .if1 .taken))
+nonzero c = fraction-some (2 ^ (c .before .args .p - 1)) (c .before .args .x) (c .before .pre .1) (c .if1 .taken)
 
 shift-up-requires : tie.Need-shift-up-requires
 shift-up-requires c κs =
