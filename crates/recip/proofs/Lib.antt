@@ -1,0 +1,2 @@
+pub mod ControlPoints
+pub mod Reciprocals
