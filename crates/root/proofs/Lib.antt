@@ -5,3 +5,6 @@ pub mod Signed
 pub mod Words
 pub mod Sentences
 pub mod Order
+pub mod FirstRoot
+pub mod Steps
+pub mod LastDigit

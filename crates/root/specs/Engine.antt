@@ -1,9 +1,9 @@
 -- What the private functions ask and promise: the engine by inequalities, the operand's parts by their range. Definitions only.
-use Prim.Native.Nat.{ℕ, _+_, _-_, _*_, _%_, _^_, _≤_, _<_}
+use Prim.Native.Nat.{ℕ, _+_, _-_, _*_, _/_, _%_, _^_, _≤_, _<_}
 use mathlib.Core.Path.{_≡_}
 use lib.IntN.{ℤ, pos, negsuc, subℕ}
 
--- ---- the engine
+-- ---- the engines
 
 -- W has p or p + 1 digits, and at most p + 1 rounds are asked
 pub record Asked (p w k : ℕ) : Type 0 where
@@ -45,3 +45,15 @@ pub record Ready (p b w h : ℕ) (half : ℤ) : Type 0 where
   pub bias : b < 2 ^ 11
   pub high : h < 2 ^ 11
   pub is : half ≡ subℕ h b
+
+-- ---- the table engine
+
+-- v is m * 2 ^ n, with m of p digits
+pub record Normalised (p m n v : ℕ) : Type 0 where
+  pub above : 2 ^ p ≤ 2 * m
+  pub below : m < 2 ^ p
+  pub value : m * 2 ^ n ≡ v
+
+-- the place in the table of an m of 53 digits, by its first nine; twice m is meant where odd is 1
+abbrev pub placeOf : ℕ → ℕ → ℕ
+placeOf m odd = m / 2 ^ 44 % 256 + (1 - odd) * 256

@@ -1,9 +1,11 @@
-// The root by digit rounds, and the root after some of its rounds. Everything but the four public
-// functions is written once, over p, the digits of a format, and emax, its largest exponent.
+// The root by two engines that give the same digits: rounds of one digit each, and a table; and the root
+// after some of its rounds. All but the table engine and the functions of a width is written once, over p,
+// the digits of a format, and emax, its largest exponent.
 pub mod double;
 mod finite;
 mod operand;
 pub mod partial;
 mod rounds;
 pub mod single;
+mod table;
 mod weights;

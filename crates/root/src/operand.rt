@@ -15,7 +15,7 @@ pub struct Parts {
 }
 
 // How far m is to be shifted up to have p digits; a number of p digits has 64 - p leading zeros.
-fn shift_up(m: u64, p: u32) -> u32
+pub fn shift_up(m: u64, p: u32) -> u32
     requires { ⌜ (0 < m) × (m < 2 ^ p) × (p ≤ 60) ⌝ }
     ensures { λ r. ⌜ Shifts p m r ⌝ }
 {
