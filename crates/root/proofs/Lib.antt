@@ -8,3 +8,4 @@ pub mod Order
 pub mod FirstRoot
 pub mod Steps
 pub mod LastDigit
+pub mod TwiceRounded

@@ -137,7 +137,7 @@ last-root p w a =
       lt-of-mul-lt-mul-left n (omega (arith, e, digits-high p w (p + 1) a)),
     )
 
-parity : (q : ℕ) → (q % 2 ≡ 0) ⊎ (q % 2 ≡ 1)
+pub parity : (q : ℕ) → (q % 2 ≡ 0) ⊎ (q % 2 ≡ 1)
 parity q = go (q % 2) refl
   where
     go : (r : ℕ) → q % 2 ≡ r → (q % 2 ≡ 0) ⊎ (q % 2 ≡ 1)

@@ -2,6 +2,7 @@
 use Prim.Native.Nat.{ℕ, _+_, _-_, _*_, _/_, _%_, _^_, _≤_, _<_}
 use mathlib.Core.Path.{_≡_}
 use lib.IntN.{ℤ, pos, negsuc, subℕ}
+use Rattle.words.specs.Rounding.{Held}
 
 -- ---- the engines
 
@@ -57,3 +58,11 @@ pub record Normalised (p m n v : ℕ) : Type 0 where
 -- the place in the table of an m of 53 digits, by its first nine; twice m is meant where odd is 1
 abbrev pub placeOf : ℕ → ℕ → ℕ
 placeOf m odd = m / 2 ^ 44 % 256 + (1 - odd) * 256
+
+-- ---- a narrower format by the f64 root
+
+-- f64 has more than twice the digits, and its bias differs by an even number
+pub record Narrow (p e : ℕ) : Type 0 where
+  pub held : Held p e
+  pub digits : 2 * p + 2 ≤ 53
+  pub odd : e % 2 ≡ 1

@@ -3,6 +3,7 @@
 // the digits of a format, and emax, its largest exponent.
 pub mod double;
 mod finite;
+mod narrow;
 mod operand;
 pub mod partial;
 mod rounds;
