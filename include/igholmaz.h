@@ -76,6 +76,10 @@ igholmaz_answer igholmaz_scalbnd(uint64_t x, int32_t n);
 igholmaz_answer igholmaz_sqrtf(uint32_t x);
 igholmaz_answer igholmaz_sqrtd(uint64_t x);
 
+/* The same roots by digit rounds alone, without the table: the same answer on every operand, and slower. */
+igholmaz_answer igholmaz_sqrtf_digits(uint32_t x);
+igholmaz_answer igholmaz_sqrtd_digits(uint64_t x);
+
 /* The first binary digits of the root, one for each round, and what is left over. With p = 24 or 53,
  * x = M * 4^E, 1 <= M < 4, W = M * 2^(p-1) and k rounds: digits is the Q with
  * 2^(p+1) * Q^2 <= 4^k * W < 2^(p+1) * (Q+1)^2, left is 2^(k+1) * W - 2^(p+2-k) * Q^2, rounds is k.
@@ -97,6 +101,8 @@ uint64_t igholmaz_powd(uint64_t x, uint64_t y);
  * Refused: 1 when the lengths are not all equal, else 2 when they exceed IGHOLMAZ_BATCH_MOST. */
 igholmaz_batch igholmaz_sqrtf_batch(const uint32_t *xs, size_t xs_len, uint32_t *out, size_t out_len);
 igholmaz_batch igholmaz_sqrtd_batch(const uint64_t *xs, size_t xs_len, uint64_t *out, size_t out_len);
+igholmaz_batch igholmaz_sqrtf_digits_batch(const uint32_t *xs, size_t xs_len, uint32_t *out, size_t out_len);
+igholmaz_batch igholmaz_sqrtd_digits_batch(const uint64_t *xs, size_t xs_len, uint64_t *out, size_t out_len);
 igholmaz_batch igholmaz_scalbnf_batch(const uint32_t *xs, size_t xs_len, const int32_t *ns, size_t ns_len,
                                       uint32_t *out, size_t out_len);
 igholmaz_batch igholmaz_scalbnd_batch(const uint64_t *xs, size_t xs_len, const int32_t *ns, size_t ns_len,

@@ -44,17 +44,19 @@ pub struct Batch {
 }
 
 macro_rules! face {
-    ($($word:ty: $fabs:ident $scalbn:ident $sqrt:ident $partial:ident $sort:ident $pow:ident
-        $sqrts:ident $scalbns:ident $pows:ident;)*) => {
+    ($($word:ty: $fabs:ident $scalbn:ident $sqrt:ident $digits:ident $partial:ident $sort:ident $pow:ident
+        $sqrts:ident $digitss:ident $scalbns:ident $pows:ident;)*) => {
         extern "C" {
             $(
                 pub fn $fabs(x: $word) -> $word;
                 pub fn $scalbn(x: $word, n: i32) -> Answer;
                 pub fn $sqrt(x: $word) -> Answer;
+                pub fn $digits(x: $word) -> Answer;
                 pub fn $partial(x: $word, rounds: u32) -> Partial;
                 pub fn $sort(x: $word, y: $word) -> Sorted;
                 pub fn $pow(x: $word, y: $word) -> $word;
                 pub fn $sqrts(xs: *const $word, xs_len: usize, out: *mut $word, out_len: usize) -> Batch;
+                pub fn $digitss(xs: *const $word, xs_len: usize, out: *mut $word, out_len: usize) -> Batch;
                 pub fn $scalbns(xs: *const $word, xs_len: usize, ns: *const i32, ns_len: usize,
                     out: *mut $word, out_len: usize) -> Batch;
                 pub fn $pows(xs: *const $word, xs_len: usize, ys: *const $word, ys_len: usize,
@@ -65,8 +67,10 @@ macro_rules! face {
 }
 
 face! {
-    u32: igholmaz_fabsf igholmaz_scalbnf igholmaz_sqrtf igholmaz_partial_sqrtf igholmaz_sort_powf igholmaz_powf
-        igholmaz_sqrtf_batch igholmaz_scalbnf_batch igholmaz_powf_batch;
-    u64: igholmaz_fabsd igholmaz_scalbnd igholmaz_sqrtd igholmaz_partial_sqrtd igholmaz_sort_powd igholmaz_powd
-        igholmaz_sqrtd_batch igholmaz_scalbnd_batch igholmaz_powd_batch;
+    u32: igholmaz_fabsf igholmaz_scalbnf igholmaz_sqrtf igholmaz_sqrtf_digits igholmaz_partial_sqrtf
+        igholmaz_sort_powf igholmaz_powf
+        igholmaz_sqrtf_batch igholmaz_sqrtf_digits_batch igholmaz_scalbnf_batch igholmaz_powf_batch;
+    u64: igholmaz_fabsd igholmaz_scalbnd igholmaz_sqrtd igholmaz_sqrtd_digits igholmaz_partial_sqrtd
+        igholmaz_sort_powd igholmaz_powd
+        igholmaz_sqrtd_batch igholmaz_sqrtd_digits_batch igholmaz_scalbnd_batch igholmaz_powd_batch;
 }

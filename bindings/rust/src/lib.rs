@@ -32,10 +32,10 @@ macro_rules! example {
 }
 
 macro_rules! words {
-    ($word:ident $float:literal: $fabs:ident $scalbn:ident $sqrt:ident $partial:ident $sort:ident $pow:ident
-        $sqrts:ident $scalbns:ident $pows:ident;
-        $c_fabs:ident $c_scalbn:ident $c_sqrt:ident $c_partial:ident $c_sort:ident $c_pow:ident
-        $c_sqrts:ident $c_scalbns:ident $c_pows:ident) => {
+    ($word:ident $float:literal: $fabs:ident $scalbn:ident $sqrt:ident $digits:ident $partial:ident $sort:ident
+        $pow:ident $sqrts:ident $digitss:ident $scalbns:ident $pows:ident;
+        $c_fabs:ident $c_scalbn:ident $c_sqrt:ident $c_digits:ident $c_partial:ident $c_sort:ident $c_pow:ident
+        $c_sqrts:ident $c_digitss:ident $c_scalbns:ident $c_pows:ident) => {
         /// The absolute value: the sign bit cleared, every other bit kept, in a NaN too.
         #[doc = example!("assert_eq!(", stringify!($fabs), "((-2", $float, ").to_bits()), 2", $float, ".to_bits());")]
         #[inline]
@@ -58,6 +58,13 @@ macro_rules! words {
         #[inline]
         pub fn $sqrt(x: $word) -> $word {
             unsafe { face::$c_sqrt(x) }.word as $word
+        }
+
+        /// The same root, by digit rounds alone: the same bits on every operand, and slower.
+        #[doc = example!("assert_eq!(", stringify!($digits), "(9", $float, ".to_bits()), 3", $float, ".to_bits());")]
+        #[inline]
+        pub fn $digits(x: $word) -> $word {
+            unsafe { face::$c_digits(x) }.word as $word
         }
 
         /// The first digits of the root, one for each round. Refused: [`Refusal::NotPositive`], else
@@ -107,6 +114,16 @@ macro_rules! words {
             unless_refused(answer.number, answer.count)
         }
 
+        /// The same roots, by digit rounds alone: the same bits, refusals and answers, and slower.
+        #[doc = example!("let xs = [4", $float, ", 9", $float, "].map(|x| x.to_bits());\nlet mut out = [0; 2];\n",
+            "assert_eq!(", stringify!($digitss), "(&xs, &mut out), Ok(2));\n",
+            "assert_eq!(out, [2", $float, ", 3", $float, "].map(|x| x.to_bits()));")]
+        #[inline]
+        pub fn $digitss(xs: &[$word], out: &mut [$word]) -> Result<usize, Refusal> {
+            let answer = unsafe { face::$c_digitss(xs.as_ptr(), xs.len(), out.as_mut_ptr(), out.len()) };
+            unless_refused(answer.number, answer.count)
+        }
+
         /// Each element times 2 to its n; answers how many. Refused: [`Refusal::LengthsDiffer`], else
         /// [`Refusal::TooLong`].
         #[doc = example!("let mut out = [0; 2];\n",
@@ -136,9 +153,11 @@ macro_rules! words {
     };
 }
 
-words!(u32 "f32": fabsf scalbnf sqrtf partial_sqrtf sort_powf powf sqrtf_batch scalbnf_batch powf_batch;
-    igholmaz_fabsf igholmaz_scalbnf igholmaz_sqrtf igholmaz_partial_sqrtf igholmaz_sort_powf igholmaz_powf
-    igholmaz_sqrtf_batch igholmaz_scalbnf_batch igholmaz_powf_batch);
-words!(u64 "f64": fabsd scalbnd sqrtd partial_sqrtd sort_powd powd sqrtd_batch scalbnd_batch powd_batch;
-    igholmaz_fabsd igholmaz_scalbnd igholmaz_sqrtd igholmaz_partial_sqrtd igholmaz_sort_powd igholmaz_powd
-    igholmaz_sqrtd_batch igholmaz_scalbnd_batch igholmaz_powd_batch);
+words!(u32 "f32": fabsf scalbnf sqrtf sqrtf_digits partial_sqrtf sort_powf powf
+    sqrtf_batch sqrtf_digits_batch scalbnf_batch powf_batch;
+    igholmaz_fabsf igholmaz_scalbnf igholmaz_sqrtf igholmaz_sqrtf_digits igholmaz_partial_sqrtf igholmaz_sort_powf
+    igholmaz_powf igholmaz_sqrtf_batch igholmaz_sqrtf_digits_batch igholmaz_scalbnf_batch igholmaz_powf_batch);
+words!(u64 "f64": fabsd scalbnd sqrtd sqrtd_digits partial_sqrtd sort_powd powd
+    sqrtd_batch sqrtd_digits_batch scalbnd_batch powd_batch;
+    igholmaz_fabsd igholmaz_scalbnd igholmaz_sqrtd igholmaz_sqrtd_digits igholmaz_partial_sqrtd igholmaz_sort_powd
+    igholmaz_powd igholmaz_sqrtd_batch igholmaz_sqrtd_digits_batch igholmaz_scalbnd_batch igholmaz_powd_batch);

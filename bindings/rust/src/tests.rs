@@ -23,10 +23,11 @@ fn roots() {
         (INF, INF),
     ];
     for (x, root) in values {
-        assert_eq!(sqrtf(x), root);
+        assert_eq!([sqrtf(x), sqrtf_digits(x)], [root; 2]);
     }
-    assert_eq!(sqrtd(0x8000_0000), 0x1f56_a09e_667f_3bcd);
-    assert_eq!(sqrtd(f64::NEG_INFINITY.to_bits()), NAN_D);
+    for (x, root) in [(0x8000_0000, 0x1f56_a09e_667f_3bcd), (f64::NEG_INFINITY.to_bits(), NAN_D)] {
+        assert_eq!([sqrtd(x), sqrtd_digits(x)], [root; 2]);
+    }
 }
 
 #[test]
@@ -86,16 +87,21 @@ fn powers() {
 
 #[test]
 fn batches() {
-    let mut out = vec![7; BATCH_MOST + 1];
-    assert_eq!(sqrtf_batch(&[], &mut []), Ok(0));
+    let engines: [fn(&[u32], &mut [u32]) -> Result<usize, Refusal>; 2] = [sqrtf_batch, sqrtf_digits_batch];
+    for roots in engines {
+        let mut out = vec![7; BATCH_MOST + 1];
+        assert_eq!(roots(&[], &mut []), Ok(0));
+        assert_eq!(roots(&[f(4.); BATCH_MOST + 1], &mut out), Err(Refusal::TooLong));
+        assert_eq!(roots(&[f(4.); BATCH_MOST], &mut out), Err(Refusal::LengthsDiffer));
+        assert!(out.iter().all(|&word| word == 7));
+        assert_eq!(roots(&[f(4.); BATCH_MOST], &mut out[..BATCH_MOST]), Ok(BATCH_MOST));
+        assert!(out[..BATCH_MOST].iter().all(|&word| word == f(2.)));
+        assert_eq!(out[BATCH_MOST], 7);
+    }
+    let mut out = [7; 2];
     assert_eq!(powd_batch(&[], &[], &mut []), Ok(0));
-    assert_eq!(sqrtf_batch(&[f(4.); BATCH_MOST + 1], &mut out), Err(Refusal::TooLong));
-    assert_eq!(sqrtf_batch(&[f(4.); BATCH_MOST], &mut out), Err(Refusal::LengthsDiffer));
-    assert_eq!(scalbnf_batch(&[f(4.); 2], &[1; 3], &mut out[..2]), Err(Refusal::LengthsDiffer));
-    assert!(out.iter().all(|&word| word == 7));
-    assert_eq!(sqrtf_batch(&[f(4.); BATCH_MOST], &mut out[..BATCH_MOST]), Ok(BATCH_MOST));
-    assert!(out[..BATCH_MOST].iter().all(|&word| word == f(2.)));
-    assert_eq!(out[BATCH_MOST], 7);
+    assert_eq!(scalbnf_batch(&[f(4.); 2], &[1; 3], &mut out), Err(Refusal::LengthsDiffer));
+    assert_eq!(out, [7; 2]);
 }
 
 #[test]

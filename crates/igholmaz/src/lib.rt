@@ -62,6 +62,20 @@ pub extern "C" fn igholmaz_sqrtd(x: u64) -> Answer
 }
 
 #[no_mangle]
+pub extern "C" fn igholmaz_sqrtf_digits(x: u32) -> Answer
+    ensures { λ r. ⌜ r ≡ answered (rootWord binary32 x) ⌝ }
+{
+    root::single::sqrtf_digits(x)
+}
+
+#[no_mangle]
+pub extern "C" fn igholmaz_sqrtd_digits(x: u64) -> Answer
+    ensures { λ r. ⌜ r ≡ answered (rootWord binary64 x) ⌝ }
+{
+    root::double::sqrtd_digits(x)
+}
+
+#[no_mangle]
 pub extern "C" fn igholmaz_partial_sqrtf(x: u32, rounds: u32) -> PartialRoot
     ensures { λ r. ⌜ r ≡ partialRoot binary32 x rounds ⌝ }
 {
@@ -87,6 +101,20 @@ pub extern "C" fn igholmaz_sqrtd_batch(xs: &[u64], out: &mut [u64]) -> Batch
     ensures { λ r. ⌜ Mapped (rootWord binary64) (now (xs .entry)) (now (out .entry)) (now (out .exit)) r ⌝ }
 {
     batch::double::sqrtd_batch(xs, out)
+}
+
+#[no_mangle]
+pub extern "C" fn igholmaz_sqrtf_digits_batch(xs: &[u32], out: &mut [u32]) -> Batch
+    ensures { λ r. ⌜ Mapped (rootWord binary32) (now (xs .entry)) (now (out .entry)) (now (out .exit)) r ⌝ }
+{
+    batch::single::sqrtf_digits_batch(xs, out)
+}
+
+#[no_mangle]
+pub extern "C" fn igholmaz_sqrtd_digits_batch(xs: &[u64], out: &mut [u64]) -> Batch
+    ensures { λ r. ⌜ Mapped (rootWord binary64) (now (xs .entry)) (now (out .entry)) (now (out .exit)) r ⌝ }
+{
+    batch::double::sqrtd_digits_batch(xs, out)
 }
 
 #[no_mangle]
