@@ -8,3 +8,4 @@ pub mod Streams
 pub mod AnnexF
 pub mod Planners
 pub mod NanPowers
+pub mod Engines

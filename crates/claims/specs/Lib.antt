@@ -5,3 +5,4 @@ pub mod Operations
 pub mod AnnexF
 pub mod Planners
 pub mod NanPowers
+pub mod Engines
