@@ -57,9 +57,9 @@ pub fn svg(timed: &[Timed]) -> String {
             mark(&mut s, side, place(ns), y);
         }
         let colour = if row.met() { "#000" } else { COLOURS[0] };
-        text(&mut s, LEFT + WIDE + 60., y + 4., "end", colour, &format!("{:.2}", row.ratio(0)));
+        text(&mut s, LEFT + WIDE + 60., y + 4., "end", colour, &format!("{:.3}", row.ratio(0)));
         if let Some(most) = row.target {
-            text(&mut s, LEFT + WIDE + 70., y + 4., "start", "#777", &format!("\u{2264} {most:.1}"));
+            text(&mut s, LEFT + WIDE + 70., y + 4., "start", "#777", &format!("\u{2264} {most:?}"));
         }
     }
     s + "</svg>\n"

@@ -2,8 +2,9 @@
 //! side. A single call is one call that is not inlined; a batch is one call of the port beside a Rust loop
 //! over the original or over the C library.
 
+use crate::kinds::{powers, roots, scalings};
 use crate::sides::{as_it_stands, face, without_sse};
-use crate::words::{Draw, Format, DOUBLE, SINGLE};
+use crate::words::{DOUBLE, SINGLE};
 use std::hint::black_box;
 
 /// The sides in their order in every row.
@@ -23,11 +24,18 @@ pub struct Row {
     pub sides: [Pass; 4],
 }
 
+/// Two passes to be held beside each other: the second's time over the first's.
+pub struct Pair {
+    pub names: Vec<&'static str>,
+    pub target: Option<f64>,
+    pub sides: [Pass; 2],
+}
+
 /// One pass over a row's operands.
 pub type Pass = Box<dyn FnMut()>;
 
 /// One call for each pair of operands.
-fn each<X: Copy + 'static, Y: Copy + 'static>(pairs: &[(X, Y)], call: impl Fn(X, Y) -> X + 'static) -> Pass {
+pub fn each<X: Copy + 'static, Y: Copy + 'static>(pairs: &[(X, Y)], call: impl Fn(X, Y) -> X + 'static) -> Pass {
     let pairs = pairs.to_vec();
     Box::new(move || {
         for &(x, y) in black_box(&pairs) {
@@ -37,7 +45,7 @@ fn each<X: Copy + 'static, Y: Copy + 'static>(pairs: &[(X, Y)], call: impl Fn(X,
 }
 
 /// All operands at once into a result slice.
-fn whole<X: Copy + Default + 'static, Y: Copy + 'static>(
+pub fn whole<X: Copy + Default + 'static, Y: Copy + 'static>(
     pairs: &[(X, Y)],
     run: impl Fn(&[X], &[Y], &mut [X]) + 'static,
 ) -> Pass {
@@ -50,7 +58,7 @@ fn whole<X: Copy + Default + 'static, Y: Copy + 'static>(
 }
 
 /// A Rust loop over a single function.
-fn looped<X: Copy, Y: Copy>(call: impl Fn(X, Y) -> X) -> impl Fn(&[X], &[Y], &mut [X]) {
+pub fn looped<X: Copy, Y: Copy>(call: impl Fn(X, Y) -> X) -> impl Fn(&[X], &[Y], &mut [X]) {
     move |xs, ys, out| {
         for ((out, &x), &y) in out.iter_mut().zip(xs).zip(ys) {
             *out = call(x, y);
@@ -71,52 +79,61 @@ mod c {
 
 /// The rows of one width. Each single side is called by a pointer of which the compiler knows nothing.
 macro_rules! width {
-    ($rows:ident, $f:expr, $word:ident $float:ident: $sqrt:ident $scalbn:ident $pow:ident,
-        $sqrts:ident $scalbns:ident $pows:ident; $c_sqrt:ident $c_scalbn:ident $c_pow:ident;
-        $p_sqrt:ident $p_scalbn:ident $p_pow:ident $p_sqrts:ident $p_scalbns:ident $p_pows:ident) => {
+    ($rows:ident, $f:expr, $word:ident $float:ident: $sqrt:ident $digits:ident $scalbn:ident $pow:ident,
+        $sqrts:ident $digitss:ident $scalbns:ident $pows:ident; $c_sqrt:ident $c_scalbn:ident $c_pow:ident;
+        $p_sqrt:ident $p_digits:ident $p_scalbn:ident $p_pow:ident
+        $p_sqrts:ident $p_digitss:ident $p_scalbns:ident $p_pows:ident) => {
         type Root = fn($float) -> $float;
+        type PortRoot = unsafe extern "C" fn($word) -> face::Answer;
+        type PortRoots = unsafe extern "C" fn(*const $word, usize, *mut $word, usize) -> face::Batch;
         type Scaling = fn($float, i32) -> $float;
         type Power = fn($float, $float) -> $float;
         let float = |x: $word| $float::from_bits(x);
 
         let (without, stands) = black_box((without_sse::$sqrt as Root, as_it_stands::$sqrt as Root));
         let library = black_box(c::$c_sqrt as unsafe extern "C" fn($float) -> $float);
-        for (operands, target, pairs) in roots($f) {
-            let pairs: Vec<_> = pairs.iter().map(|&x| (x as $word, ())).collect();
-            $rows.push(Row {
-                call: stringify!($sqrt),
-                operands,
-                target,
-                sides: [
-                    each(&pairs, move |x, ()| without(float(x)).to_bits()),
-                    each(&pairs, move |x, ()| stands(float(x)).to_bits()),
-                    each(&pairs, move |x, ()| unsafe { library(float(x)) }.to_bits()),
-                    each(&pairs, |x, ()| unsafe { face::$p_sqrt(x) }.word as $word),
-                ],
-            });
-            $rows.push(Row {
-                call: stringify!($sqrts),
-                operands,
-                target,
-                sides: [
-                    whole(&pairs, looped(move |x, ()| without_sse::$sqrt(float(x)).to_bits())),
-                    whole(&pairs, looped(move |x, ()| as_it_stands::$sqrt(float(x)).to_bits())),
-                    whole(&pairs, looped(move |x, ()| unsafe { library(float(x)) }.to_bits())),
-                    whole(&pairs, |xs, _, out| {
-                        done(unsafe { face::$p_sqrts(xs.as_ptr(), PASS, out.as_mut_ptr(), PASS) })
-                    }),
-                ],
-            });
+        let engines = black_box([
+            (stringify!($sqrt), face::$p_sqrt as PortRoot, stringify!($sqrts), face::$p_sqrts as PortRoots),
+            (stringify!($digits), face::$p_digits, stringify!($digitss), face::$p_digitss),
+        ]);
+        for (operands, words) in roots($f, 1) {
+            let pairs: Vec<_> = words.iter().map(|&x| (x as $word, ())).collect();
+            for (call, port, batch, ports) in engines {
+                $rows.push(Row {
+                    call,
+                    operands,
+                    target: target(call, operands),
+                    sides: [
+                        each(&pairs, move |x, ()| without(float(x)).to_bits()),
+                        each(&pairs, move |x, ()| stands(float(x)).to_bits()),
+                        each(&pairs, move |x, ()| unsafe { library(float(x)) }.to_bits()),
+                        each(&pairs, move |x, ()| unsafe { port(x) }.word as $word),
+                    ],
+                });
+                $rows.push(Row {
+                    call: batch,
+                    operands,
+                    target: target(batch, operands),
+                    sides: [
+                        whole(&pairs, looped(move |x, ()| without_sse::$sqrt(float(x)).to_bits())),
+                        whole(&pairs, looped(move |x, ()| as_it_stands::$sqrt(float(x)).to_bits())),
+                        whole(&pairs, looped(move |x, ()| unsafe { library(float(x)) }.to_bits())),
+                        whole(&pairs, move |xs, _, out| {
+                            done(unsafe { ports(xs.as_ptr(), PASS, out.as_mut_ptr(), PASS) })
+                        }),
+                    ],
+                });
+            }
         }
 
         let (without, stands) = black_box((without_sse::$scalbn as Scaling, as_it_stands::$scalbn as Scaling));
         let library = black_box(c::$c_scalbn as unsafe extern "C" fn($float, i32) -> $float);
-        for (operands, target, pairs) in scalings($f) {
+        for (operands, pairs) in scalings($f) {
             let pairs: Vec<_> = pairs.iter().map(|&(x, n)| (x as $word, n)).collect();
             $rows.push(Row {
                 call: stringify!($scalbn),
                 operands,
-                target,
+                target: target(stringify!($scalbn), operands),
                 sides: [
                     each(&pairs, move |x, n| without(float(x), n).to_bits()),
                     each(&pairs, move |x, n| stands(float(x), n).to_bits()),
@@ -127,7 +144,7 @@ macro_rules! width {
             $rows.push(Row {
                 call: stringify!($scalbns),
                 operands,
-                target,
+                target: target(stringify!($scalbns), operands),
                 sides: [
                     whole(&pairs, looped(move |x, n| without_sse::$scalbn(float(x), n).to_bits())),
                     whole(&pairs, looped(move |x, n| as_it_stands::$scalbn(float(x), n).to_bits())),
@@ -141,12 +158,12 @@ macro_rules! width {
 
         let (without, stands) = black_box((without_sse::$pow as Power, as_it_stands::$pow as Power));
         let library = black_box(c::$c_pow as unsafe extern "C" fn($float, $float) -> $float);
-        for (operands, target, pairs) in powers($f) {
+        for (operands, pairs) in powers($f) {
             let pairs: Vec<_> = pairs.iter().map(|&(x, y)| (x as $word, y as $word)).collect();
             $rows.push(Row {
                 call: stringify!($pow),
                 operands,
-                target,
+                target: target(stringify!($pow), operands),
                 sides: [
                     each(&pairs, move |x, y| without(float(x), float(y)).to_bits()),
                     each(&pairs, move |x, y| stands(float(x), float(y)).to_bits()),
@@ -157,7 +174,7 @@ macro_rules! width {
             $rows.push(Row {
                 call: stringify!($pows),
                 operands,
-                target,
+                target: target(stringify!($pows), operands),
                 sides: [
                     whole(&pairs, looped(move |x, y| without_sse::$pow(float(x), float(y)).to_bits())),
                     whole(&pairs, looped(move |x, y| as_it_stands::$pow(float(x), float(y)).to_bits())),
@@ -171,71 +188,37 @@ macro_rules! width {
     };
 }
 
-fn done(answer: face::Batch) {
+pub fn done(answer: face::Batch) {
     assert!(answer.number == 0 && answer.count == PASS, "a batch was refused");
 }
 
 pub fn rows() -> Vec<Row> {
     let mut all = Vec::new();
     {
-        width!(all, SINGLE, u32 f32: sqrtf scalbnf powf, sqrtf_batch scalbnf_batch powf_batch; sqrtf scalbnf powf;
-            igholmaz_sqrtf igholmaz_scalbnf igholmaz_powf
-            igholmaz_sqrtf_batch igholmaz_scalbnf_batch igholmaz_powf_batch);
+        width!(all, SINGLE, u32 f32: sqrtf sqrtf_digits scalbnf powf,
+            sqrtf_batch sqrtf_digits_batch scalbnf_batch powf_batch; sqrtf scalbnf powf;
+            igholmaz_sqrtf igholmaz_sqrtf_digits igholmaz_scalbnf igholmaz_powf
+            igholmaz_sqrtf_batch igholmaz_sqrtf_digits_batch igholmaz_scalbnf_batch igholmaz_powf_batch);
     }
-    width!(all, DOUBLE, u64 f64: sqrtd scalbnd powd, sqrtd_batch scalbnd_batch powd_batch; sqrt scalbn pow;
-        igholmaz_sqrtd igholmaz_scalbnd igholmaz_powd
-        igholmaz_sqrtd_batch igholmaz_scalbnd_batch igholmaz_powd_batch);
+    width!(all, DOUBLE, u64 f64: sqrtd sqrtd_digits scalbnd powd,
+        sqrtd_batch sqrtd_digits_batch scalbnd_batch powd_batch; sqrt scalbn pow;
+        igholmaz_sqrtd igholmaz_sqrtd_digits igholmaz_scalbnd igholmaz_powd
+        igholmaz_sqrtd_batch igholmaz_sqrtd_digits_batch igholmaz_scalbnd_batch igholmaz_powd_batch);
     all
 }
 
-/// A kind of operands by name, its target, and the operands of a pass.
-type Drawn<T> = (&'static str, Option<f64>, Vec<T>);
-
-fn pass<T>(f: Format, kind: &'static str, target: Option<f64>, mut one: impl FnMut(&mut Draw) -> T) -> Drawn<T> {
-    let mut d = Draw::new(1, kind, f.p.into());
-    (kind, target, (0..PASS).map(|_| one(&mut d)).collect())
-}
-
-fn normal(f: Format, d: &mut Draw) -> u64 {
-    f.hid() + d.below(f.infinity() - f.hid())
-}
-
-fn roots(f: Format) -> [Drawn<u64>; 2] {
-    let target = Some(if f.p == 24 { 1.0 } else { 0.6 });
-    [pass(f, "normal", target, |d| normal(f, d)), pass(f, "subnormal", target, |d| d.sized(f.p - 1))]
-}
-
-/// Normal numbers with normal results; subnormal numbers with results of either kind.
-fn scalings(f: Format) -> [Drawn<(u64, i32)>; 2] {
-    let most = i64::from(f.emax / 2);
-    let middle = |d: &mut Draw| f.power(d.within(-most, most) as i32) + d.below(f.hid());
-    let step = i64::from(f.p);
-    [
-        pass(f, "normal", Some(1.2), |d| (middle(d), d.within(-most, most) as i32)),
-        pass(f, "subnormal", Some(1.2), |d| (d.sized(f.p - 1), d.within(-step, step) as i32)),
-    ]
-}
-
-/// Open pairs whose power is normal, or of which x or the power is subnormal; settled pairs of every rule.
-fn powers(f: Format) -> [Drawn<(u64, u64)>; 3] {
-    let (top, least) = (f64::from(f.emax), f64::from(2 - f.emax - f.p as i32));
-    let moderate = |d: &mut Draw| f.power(d.within(-9, 8) as i32) + d.below(f.hid());
-    let reach = |x: u64, z: f64| (x, f.word(z / f.value(x).log2()));
-    let settled = |d: &mut Draw| {
-        let (x, y) = (normal(f, d), d.of(&[0., 1., -1., 2., 0.5, f64::INFINITY, f64::NAN]));
-        let special = d.of(&[0., 1., -1., f64::INFINITY, f64::NAN]);
-        match d.below(3) {
-            0 => (x, f.word(y)),
-            1 => (f.word(special), normal(f, d)),
-            _ => (x | f.sign(), f.word(d.real(0.1, 0.9))),
-        }
-    };
-    [
-        pass(f, "open", Some(1.1), |d| reach(moderate(d), d.real(1. - top, top - 1.))),
-        pass(f, "open, subnormal", Some(1.1), |d| match d.below(2) {
-            0 => reach(moderate(d), d.real(least, 1. - top)),
-            _ => reach(d.sized(f.p - 1), d.real(1. - top, top - 1.)),
-        }),
-        pass(f, "settled", None, settled),
-    ]
+/// The most that the port's time may be of that of the original without sse.
+fn target(call: &str, operands: &str) -> Option<f64> {
+    match (call, operands) {
+        (_, "settled") => None,
+        ("sqrtf" | "sqrtf_batch", _) => Some(0.22),
+        ("sqrtf_digits" | "sqrtf_digits_batch", _) => Some(1.0),
+        ("sqrtd", "normal") => Some(0.035),
+        ("sqrtd_batch", "normal") => Some(0.03),
+        ("sqrtd" | "sqrtd_batch", _) => Some(0.04),
+        ("sqrtd_digits" | "sqrtd_digits_batch", _) => Some(0.6),
+        ("scalbnf" | "scalbnf_batch" | "scalbnd" | "scalbnd_batch", _) => Some(1.2),
+        ("powf" | "powf_batch" | "powd" | "powd_batch", _) => Some(1.1),
+        _ => panic!("{call} on {operands} operands: neither a target nor a word that it has none"),
+    }
 }
