@@ -52,7 +52,7 @@ fn compared(all: &[Part], mode: &str, seed: u64) -> i32 {
         let start = Instant::now();
         let sum = on_all_cores(part, cores);
         println!(
-            "  {:15}{:30}{:>18} results {:>6} differ {:>8.1} s",
+            "  {:20}{:30}{:>18} results {:>6} differ {:>8.1} s",
             part.name,
             part.label,
             grouped(sum.results),
@@ -110,7 +110,7 @@ fn progress(part: &Part, done: &AtomicU64, results: &AtomicU64) {
             let share = done.load(Relaxed) as f64 / part.pieces as f64;
             let left = if share > 0. { format!("{:.0} s left", passed / share - passed) } else { String::new() };
             let line = format!(
-                "  {:15}{:30}{:>18} results {:>5.1} % {left}",
+                "  {:20}{:30}{:>18} results {:>5.1} % {left}",
                 part.name,
                 part.label,
                 grouped(results.load(Relaxed)),
@@ -149,7 +149,7 @@ fn planted(all: &[Part], seed: u64) -> i32 {
         let faulty = run(1 + d.below(clean.results));
         let good = clean.differ == 0 && faulty.differ == 1;
         caught += good as u64;
-        println!("  {:15}{:30} {}", part.name, part.label, if good { "caught" } else { "NOT CAUGHT" });
+        println!("  {:20}{:30} {}", part.name, part.label, if good { "caught" } else { "NOT CAUGHT" });
         println!("    {}", faulty.first.or(clean.first).unwrap_or_default().replace('\n', "\n    "));
     }
     println!("compare: {} faults planted, {caught} caught (planted, seed {seed})", all.len());

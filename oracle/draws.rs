@@ -23,9 +23,63 @@ pub fn operand(f: Format, d: &mut Draw) -> u64 {
     }
 }
 
-/// A word whose root is nearly S or nearly halfway to the next, S of p digits, among them such with ones or
-/// zeros in their low half: S² or S² + S cut to p digits, or a word next to that.
+/// A word whose root is nearly halfway between two numbers of p digits, nearly one of these, or exactly or nearly one
+/// of fewer digits; one in eight a word at most two away from such a word. It has the digits of n² - a, n odd and
+/// of up to p + 1 digits, a small: n ends as a root of a modulo a power of two does, so the difference ends in
+/// zeros, and it is drawn again where the word could not take all its other digits. Some words are subnormal, many
+/// of them by at most three digits.
 pub fn near_root(f: Format, d: &mut Draw) -> u64 {
+    loop {
+        let kept = match d.below(16) {
+            0 => f.p - 1 - d.below(3) as u32,
+            1 => f.p - 1 - d.below(u64::from(f.p) - 1) as u32,
+            _ => f.p,
+        };
+        let long = match d.below(4) {
+            0 | 1 => (f.p + 1).min(kept + 1 + d.below(4) as u32),
+            2 => kept,
+            _ => 1 + d.below(kept.into()) as u32,
+        };
+        // n² has at most 2·long digits. Where these are kept a is 0, else one more than a multiple of 8.
+        let (top, cut) = (1 << (long - 1), (2 * long).saturating_sub(kept));
+        let size = d.sized((cut / 2).max(4) - 3) as i64;
+        let a = match d.below(2) {
+            _ if cut < 2 => 0,
+            0 => 8 * size - 7,
+            _ => 1 - 8 * size,
+        };
+        let root = root_modulo(a as u64);
+        let end = if d.below(2) == 0 { root } else { root.wrapping_neg() };
+        let ending = (1 << cut.saturating_sub(1).min(long - 1)) - 1;
+        let n = u128::from(top | d.next() & top - 1 & !ending | end & ending | 1);
+        let x = (n * n).wrapping_sub(a as u128);
+        let (digits, x) = (128 - x.leading_zeros(), x << x.leading_zeros());
+        let (first, rest) = ((x >> (128 - kept)) as u64, x << kept);
+        // The exponent of a subnormal number comes with the number of its digits.
+        let fits = kept == f.p || (kept + f.p + f.emax as u32) % 2 == digits % 2;
+        if rest != 0 || !fits {
+            continue;
+        }
+        let word = if kept == f.p { field_of(f, d, digits) * f.hid() + first - f.hid() } else { first };
+        return if d.below(8) == 0 { d.near(f, word, 2) } else { word };
+    }
+}
+
+/// A root of a modulo 2^64, a 0 or one more than a multiple of 8: a times one over its root, of whose last digits each
+/// step makes nearly twice as many right.
+fn root_modulo(a: u64) -> u64 {
+    let next = |r: u64, _| r.wrapping_mul(3u64.wrapping_sub(a.wrapping_mul(r).wrapping_mul(r)) / 2);
+    a.wrapping_mul((0..6).fold(1, next))
+}
+
+/// The field of any exponent of the parity of a square of so many digits: it leaves the root's digits as they are.
+fn field_of(f: Format, d: &mut Draw, digits: u32) -> u64 {
+    2 * d.below(f.emax as u64) + 1 + u64::from(digits % 2 == 0)
+}
+
+/// S² or S² + S cut to p digits, or a word next to that, S of p digits, among them such with ones or zeros in their
+/// low half.
+fn about_root(f: Format, d: &mut Draw) -> u64 {
     let (p, low) = (f.p, (1 << (f.p / 2)) - 1);
     let drawn = f.hid() | d.next() & f.hid() - 1;
     let s = match d.below(3) {
@@ -36,17 +90,16 @@ pub fn near_root(f: Format, d: &mut Draw) -> u64 {
     let square = u128::from(s) * u128::from(s + d.below(2));
     let digits = 128 - square.leading_zeros();
     let kept = (square >> (digits - p)) as u64 - f.hid();
-    // Any exponent of the square's parity leaves the root's digits as they are.
-    let field = 2 * d.below(f.emax as u64) + 1 + u64::from(digits % 2 == 0);
+    let field = field_of(f, d, digits);
     d.near(f, field * f.hid() + kept, 2)
 }
 
 /// An operand of the root.
 pub fn root(f: Format, d: &mut Draw) -> u64 {
-    if d.below(2) == 0 {
-        near_root(f, d)
-    } else {
-        operand(f, d)
+    match d.below(16) {
+        0..=10 => near_root(f, d),
+        11 | 12 => about_root(f, d),
+        _ => operand(f, d),
     }
 }
 

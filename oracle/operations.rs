@@ -11,13 +11,17 @@ pub struct Operation {
     /// Whether NaN is compared bit by bit, as for fabs.
     pub bits: bool,
     pub port: fn(u64, u64) -> Answer,
-    /// The others by name. The root has the processor's instruction as its third.
-    pub sides: &'static [(&'static str, fn(u64, u64) -> u64)],
+    /// The others. The roots have the processor's instruction as their third.
+    pub sides: &'static [Side],
 }
+
+/// A name and what it answers.
+pub type Side = (&'static str, fn(u64, u64) -> u64);
 
 const WITHOUT: &str = "the original without sse";
 const STANDS: &str = "the original as it stands";
 const PROCESSOR: &str = "the processor";
+const ENGINE: &str = "the digit engine";
 
 /// A batch lends the port its operands and, of `memory`, all but GUARD words at each end. It answers what the
 /// port answered and whether the operands are still what they were.
@@ -30,14 +34,16 @@ pub struct Batched {
 
 pub const GUARD: usize = 16;
 
+/// The functions of one format: `sqrt` is the root by the table engine, `digits` that by the digit engine.
 pub struct Width {
     pub fabs: &'static Operation,
     pub scalbn: &'static Operation,
     pub sqrt: &'static Operation,
+    pub digits: &'static Operation,
     pub pow: &'static Operation,
     pub partial: (&'static str, fn(u64, u32) -> Partial),
     pub sort: (&'static str, fn(u64, u64) -> Sorted),
-    pub batches: [Batched; 3],
+    pub batches: [Batched; 4],
     pub facts: Facts,
 }
 
@@ -84,10 +90,12 @@ fn words<A: Copy, B>(list: &[A], to: fn(A) -> B) -> Vec<B> {
 }
 
 macro_rules! width {
-    ($width:ident, $format:expr, $word:ident $float:ident: $fabs:ident $scalbn:ident $sqrt:ident $pow:ident;
-        $c_fabs:ident $c_scalbn:ident $c_sqrt:ident $c_pow:ident
+    ($width:ident, $format:expr, $word:ident $float:ident:
+        $fabs:ident $scalbn:ident $sqrt:ident $digits:ident $pow:ident;
+        $c_fabs:ident $c_scalbn:ident $c_sqrt:ident $c_digits:ident $c_pow:ident
         $partial:ident $c_partial:ident $sort:ident $c_sort:ident
-        $sqrts:ident $c_sqrts:ident $scalbns:ident $c_scalbns:ident $pows:ident $c_pows:ident) => {
+        $sqrts:ident $c_sqrts:ident $digitss:ident $c_digitss:ident
+        $scalbns:ident $c_scalbns:ident $pows:ident $c_pows:ident) => {
         pub static $width: Width = {
             fn float(x: u64) -> $float {
                 $float::from_bits(x as $word)
@@ -112,16 +120,26 @@ macro_rules! width {
                     (STANDS, |x, n| as_it_stands::$scalbn(float(x), n as i32).to_bits().into()),
                 ],
             };
+            const ROOTS: &[Side] = &[
+                (WITHOUT, |x, _| without_sse::$sqrt(float(x)).to_bits().into()),
+                (STANDS, |x, _| as_it_stands::$sqrt(float(x)).to_bits().into()),
+                (PROCESSOR, |x, _| float(x).sqrt().to_bits().into()),
+                (ENGINE, |x, _| unsafe { face::$c_digits(x as $word) }.word),
+            ];
             static SQRT: Operation = Operation {
                 name: stringify!($sqrt),
                 format: $format,
                 bits: false,
                 port: |x, _| unsafe { face::$c_sqrt(x as $word) },
-                sides: &[
-                    (WITHOUT, |x, _| without_sse::$sqrt(float(x)).to_bits().into()),
-                    (STANDS, |x, _| as_it_stands::$sqrt(float(x)).to_bits().into()),
-                    (PROCESSOR, |x, _| float(x).sqrt().to_bits().into()),
-                ],
+                sides: ROOTS,
+            };
+            // All but itself.
+            static DIGITS: Operation = Operation {
+                name: stringify!($digits),
+                format: $format,
+                bits: false,
+                port: |x, _| unsafe { face::$c_digits(x as $word) },
+                sides: ROOTS.split_at(3).0,
             };
             static POW: Operation = Operation {
                 name: stringify!($pow),
@@ -137,11 +155,13 @@ macro_rules! width {
                 fabs: &FABS,
                 scalbn: &SCALBN,
                 sqrt: &SQRT,
+                digits: &DIGITS,
                 pow: &POW,
                 partial: (stringify!($partial), |x, rounds| unsafe { face::$c_partial(x as $word, rounds) }),
                 sort: (stringify!($sort), |x, y| unsafe { face::$c_sort(x as $word, y as $word) }),
                 batches: [
                     batched!($sqrts, $c_sqrts, &SQRT, $word),
+                    batched!($digitss, $c_digitss, &DIGITS, $word),
                     batched!($scalbns, $c_scalbns, &SCALBN, $word, i32),
                     batched!($pows, $c_pows, &POW, $word, $word),
                 ],
@@ -161,11 +181,13 @@ fn plain(word: u64) -> Answer {
     Answer { number: 0, word }
 }
 
-width!(F, SINGLE, u32 f32: fabsf scalbnf sqrtf powf;
-    igholmaz_fabsf igholmaz_scalbnf igholmaz_sqrtf igholmaz_powf
+width!(F, SINGLE, u32 f32: fabsf scalbnf sqrtf sqrtf_digits powf;
+    igholmaz_fabsf igholmaz_scalbnf igholmaz_sqrtf igholmaz_sqrtf_digits igholmaz_powf
     partial_sqrtf igholmaz_partial_sqrtf sort_powf igholmaz_sort_powf
-    sqrtf_batch igholmaz_sqrtf_batch scalbnf_batch igholmaz_scalbnf_batch powf_batch igholmaz_powf_batch);
-width!(D, DOUBLE, u64 f64: fabsd scalbnd sqrtd powd;
-    igholmaz_fabsd igholmaz_scalbnd igholmaz_sqrtd igholmaz_powd
+    sqrtf_batch igholmaz_sqrtf_batch sqrtf_digits_batch igholmaz_sqrtf_digits_batch
+    scalbnf_batch igholmaz_scalbnf_batch powf_batch igholmaz_powf_batch);
+width!(D, DOUBLE, u64 f64: fabsd scalbnd sqrtd sqrtd_digits powd;
+    igholmaz_fabsd igholmaz_scalbnd igholmaz_sqrtd igholmaz_sqrtd_digits igholmaz_powd
     partial_sqrtd igholmaz_partial_sqrtd sort_powd igholmaz_sort_powd
-    sqrtd_batch igholmaz_sqrtd_batch scalbnd_batch igholmaz_scalbnd_batch powd_batch igholmaz_powd_batch);
+    sqrtd_batch igholmaz_sqrtd_batch sqrtd_digits_batch igholmaz_sqrtd_digits_batch
+    scalbnd_batch igholmaz_scalbnd_batch powd_batch igholmaz_powd_batch);

@@ -1,10 +1,10 @@
 //! The parts of the comparison: for each function of the port and each fact, which operands and how many.
 
 use crate::draws;
-use crate::operations::{Width, D, F};
+use crate::operations::{Operation, Width, D, F};
 use crate::pieces::{drawing, every, listing, Part, Scale};
 use crate::sides::face::BATCH_MOST;
-use crate::words::{listed, steps, thresholds, wholes, Draw, Format};
+use crate::words::{entries, listed, steps, thresholds, wholes, Draw, Format};
 use std::collections::BTreeSet;
 
 /// The n by which all f32 words are scaled: no step, one and two steps, each upward and downward.
@@ -15,15 +15,14 @@ pub fn parts(scale: Scale) -> Vec<Part> {
     for w in [&F, &D] {
         let f = w.fabs.format;
         let single = f.p == 24;
-        for (op, quick) in [(w.fabs, 24), (w.sqrt, 24)] {
-            listing(&mut all, scale, op.name, "listed words", listed(f), vec![0], 1, move |x, _, t| t.single(op, x, 0));
-            drawing(&mut all, scale, op.name, quick, if single { 24 } else { 30 }, move |d, t| {
-                t.single(op, draws::root(f, d), 0)
-            });
-            if single {
-                let (label, words) =
-                    if scale.full { ("every word", 0..1 << 32) } else { ("every subnormal word", 1..f.hid()) };
-                every(&mut all, scale, op.name, label, words, 1, |x, t| t.single(op, x, 0));
+        of_one(&mut all, scale, w.fabs, draws::operand, 30);
+        for (root, full) in [(w.sqrt, 31), (w.digits, 30)] {
+            of_one(&mut all, scale, root, draws::root, full);
+            if !single {
+                let words = entries(f, &mut Draw::new(scale.seed, "entries", 0));
+                listing(&mut all, scale, root.name, "each table entry", words, vec![0], 1, |x, _, t| {
+                    t.single(root, x, 0)
+                });
             }
         }
         let sparse = if scale.full || single { 1 } else { 32 };
@@ -65,6 +64,18 @@ pub fn parts(scale: Scale) -> Vec<Part> {
     all
 }
 
+/// A function of one operand: listed words, 2^full drawn ones of an f64, every word of an f32.
+fn of_one(all: &mut Vec<Part>, scale: Scale, op: &'static Operation, draw: fn(Format, &mut Draw) -> u64, full: u32) {
+    let f = op.format;
+    let single = f.p == 24;
+    listing(all, scale, op.name, "listed words", listed(f), vec![0], 1, |x, _, t| t.single(op, x, 0));
+    drawing(all, scale, op.name, 24, if single { 24 } else { full }, move |d, t| t.single(op, draw(f, d), 0));
+    if single {
+        let (label, words) = if scale.full { ("every word", 0..1 << 32) } else { ("every subnormal word", 1..f.hid()) };
+        every(all, scale, op.name, label, words, 1, |x, t| t.single(op, x, 0));
+    }
+}
+
 /// Power and its sorting.
 fn powers(all: &mut Vec<Part>, scale: Scale, w: &'static Width) {
     let f = w.pow.format;
@@ -95,7 +106,7 @@ fn batches(all: &mut Vec<Part>, scale: Scale, w: &'static Width) {
     type Pairs = fn(Format, &mut Draw) -> (u64, u64);
     let root: Pairs = |f, d| (draws::root(f, d), 0);
     // Each length with the one and with the other.
-    let draw: [[Pairs; 2]; 3] = [[root; 2], [draws::scaling, draws::plain_scaling], [draws::power; 2]];
+    let draw: [[Pairs; 2]; 4] = [[root; 2], [root; 2], [draws::scaling, draws::plain_scaling], [draws::power; 2]];
     for (batch, draw) in w.batches.iter().zip(draw) {
         let mut lens = equal.clone();
         for a in odd {

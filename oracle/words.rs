@@ -145,6 +145,31 @@ pub fn listed(f: Format) -> Vec<u64> {
     signed(f, fields.chain(bits).chain([f.quiet() + 0x5a5a5, f.infinity() + 0x5a5a5]))
 }
 
+/// Words of each entry of a table whose place is the last digit of the exponent and the first eight of the fraction:
+/// the first two and the last of the entry, and drawn ones whose second half of the other digits is 0, with the word
+/// before each. They have the first, middle and last two exponents and two drawn ones, or are subnormal numbers of
+/// the same digits, of every length.
+pub fn entries(f: Format, d: &mut Draw) -> Vec<u64> {
+    let (hid, inside, last) = (f.hid(), f.p - 9, 2 * f.emax as u64);
+    let fields = [1, 2, last / 2, last / 2 + 1, last - 1, last];
+    let mut all = Vec::new();
+    for place in 0..256 {
+        let mut fractions = vec![0, 1, (1 << inside) - 1];
+        for _ in 0..8 {
+            let first = (1 + d.below((1 << (inside / 2)) - 1)) << (inside - inside / 2);
+            fractions.extend([first, first - 1]);
+        }
+        for fraction in fractions.into_iter().map(|low| place << inside | low) {
+            let even = 2 + 2 * d.below(last / 2);
+            all.extend(fields.into_iter().chain([even - 1, even]).map(|field| field * hid + fraction));
+            all.extend((1..f.p).map(|cut| (hid + fraction) >> cut));
+        }
+    }
+    all.sort_unstable();
+    all.dedup();
+    all
+}
+
 /// Where the chain and the sorting of the power branch, each with its neighbours; both signs.
 pub fn thresholds(f: Format) -> Vec<u64> {
     let one = f.one();
