@@ -1,5 +1,6 @@
 -- Any two programs that meet a contract agree in every bit and in every element of a result slice: for each public function and batch. Assumes nothing.
 -- A contract that is an equation with a definition fixes its answer; a batch's fixes its answer and all that its results hold.
+-- The roots of either engine have one contract (sqrtd and sqrtd_digits, and so on), so that the two engines agree.
 use Prim.Native.Nat.{ℕ}
 use mathlib.Core.Path.{_≡_, sym, ap, subst, _∙_}
 use mathlib.Core.List.{List}

@@ -1,4 +1,4 @@
--- What a step may add to a root that is too small: never too much, and one more than that is always too much. Assumes nothing.
+-- What a step may add to a root that is too small: rounded down it is never too much, and one more than rounded up always is. Assumes nothing.
 use Prim.Native.Nat.{ℕ, zero, suc, _+_, _-_, _*_, _^_, _≤_, _<_}
 use mathlib.Core.Path.{_≡_, refl, sym, ap, subst}
 use native.Mathlib.Nat.{le-trans, le-of-eq, lt-of-not-le, not-le-of-lt, mul-le-mul, mul-le-mul-left, mul-le-mul-right, le-of-mul-le-mul-left, mul-pos}
