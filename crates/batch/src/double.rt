@@ -17,7 +17,6 @@ use super::outcome::answer_of;
 use super::outcome::refusal_of;
 use power_double::pow::powd;
 use root::double::root64;
-use root::double::root64_digits;
 use scale::double::near64;
 use scale::double::scaled64;
 use words::refusal::DONE;
@@ -36,22 +35,6 @@ pub fn sqrtd_batch(xs: &[u64], out: &mut [u64]) -> Batch
     let mut i = 0;
     while i < out.len() {
         out[i] = root64(xs[i]);
-        i += 1;
-    }
-    answer_of(number, out.len())
-}
-
-// The root of each word of xs by the digit engine.
-pub fn sqrtd_digits_batch(xs: &[u64], out: &mut [u64]) -> Batch
-    ensures { λ r. ⌜ Mapped (rootWord binary64) (now (xs .entry)) (now (out .entry)) (now (out .exit)) r ⌝ }
-{
-    let number = refusal_of(xs.len() == out.len(), out.len());
-    if number != DONE {
-        return answer_of(number, out.len());
-    }
-    let mut i = 0;
-    while i < out.len() {
-        out[i] = root64_digits(xs[i]);
         i += 1;
     }
     answer_of(number, out.len())

@@ -9,7 +9,6 @@ use super::outcome::answer_of;
 use super::outcome::refusal_of;
 use power_single::pow::powf;
 use root::single::root32;
-use root::single::root32_digits;
 use scale::single::scaled32;
 use words::refusal::DONE;
 
@@ -24,22 +23,6 @@ pub fn sqrtf_batch(xs: &[u32], out: &mut [u32]) -> Batch
     let mut i = 0;
     while i < out.len() {
         out[i] = root32(xs[i]);
-        i += 1;
-    }
-    answer_of(number, out.len())
-}
-
-// The root of each word of xs by the digit engine.
-pub fn sqrtf_digits_batch(xs: &[u32], out: &mut [u32]) -> Batch
-    ensures { λ r. ⌜ Mapped (rootWord binary32) (now (xs .entry)) (now (out .entry)) (now (out .exit)) r ⌝ }
-{
-    let number = refusal_of(xs.len() == out.len(), out.len());
-    if number != DONE {
-        return answer_of(number, out.len());
-    }
-    let mut i = 0;
-    while i < out.len() {
-        out[i] = root32_digits(xs[i]);
         i += 1;
     }
     answer_of(number, out.len())

@@ -107,14 +107,14 @@ pub extern "C" fn igholmaz_sqrtd_batch(xs: &[u64], out: &mut [u64]) -> Batch
 pub extern "C" fn igholmaz_sqrtf_digits_batch(xs: &[u32], out: &mut [u32]) -> Batch
     ensures { λ r. ⌜ Mapped (rootWord binary32) (now (xs .entry)) (now (out .entry)) (now (out .exit)) r ⌝ }
 {
-    batch::single::sqrtf_digits_batch(xs, out)
+    batch::digits::sqrtf_digits_batch(xs, out)
 }
 
 #[no_mangle]
 pub extern "C" fn igholmaz_sqrtd_digits_batch(xs: &[u64], out: &mut [u64]) -> Batch
     ensures { λ r. ⌜ Mapped (rootWord binary64) (now (xs .entry)) (now (out .entry)) (now (out .exit)) r ⌝ }
 {
-    batch::double::sqrtd_digits_batch(xs, out)
+    batch::digits::sqrtd_digits_batch(xs, out)
 }
 
 #[no_mangle]
