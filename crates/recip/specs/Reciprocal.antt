@@ -44,7 +44,7 @@ crest test a b c y z m =
     && (test (c * c * y + 4 * (b * c) * z) (5 * m)
     && test (c * c * z) m))))
 
--- The curve is nowhere too high for z + l, the most that the next y has, and lowered by `cut` nowhere too low for z.
+-- The curve is nowhere too high for l * (y + 1), and lowered by `cut` nowhere too low for l * y.
 abbrev pub under : ℕ → ℕ → ℕ → Bool
 under l i e = crest leb (start e) (middle e) (end e) (l * (i * 2 ^ 22 + 1)) (l * (i * 2 ^ 22 + 1 + 2 ^ 22)) (2 ^ 174)
 
