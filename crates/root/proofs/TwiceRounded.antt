@@ -72,7 +72,7 @@ module _ (p : ℕ) (g : 2 * p + 2 ≤ 53) where
   abbrev wider : ℕ
   wider = 2 ^ (53 - p)
 
-  twice : wider ≡ 2 * 2 ^ (52 - p)
+  pub twice : wider ≡ 2 * 2 ^ (52 - p)
   twice = ap (λ (k : ℕ). 2 ^ k) less ∙ pow-succ' 2 (52 - p)
     where
       less : 53 - p ≡ suc (52 - p)

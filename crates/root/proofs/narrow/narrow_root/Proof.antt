@@ -9,7 +9,7 @@ use mir.Val.{Fits}
 use Rattle.words.specs.Format.{format, binary64, units}
 use Rattle.words.proofs.Digits.{one-shl, placed}
 use Rattle.root.specs.Root.{lifted, rootAt}
-use Rattle.root.proofs.TwiceRounded.{wide-finite, wide-fits, narrow-root}
+use Rattle.root.proofs.TwiceRounded.{twice, wide-finite, wide-fits, narrow-root}
 use Rattle.root.proofs.narrow.narrow_root.Statement.{statement}
 use Rattle.root.proofs.narrow.narrow_root.Tie as tie
 
@@ -40,9 +40,9 @@ module _ (c : tie.After-table-root) where
   root : c .table-root .result ≡ wide
   root = c .table-root .ensures ∙ ap (λ (k : ℕ). rootAt binary64 (lifted binary64 (units binary64 k))) (shl (c .before))
 
-  -- what the code adds before it cuts is half of the last place that stays
-  halved : 1 * 2 ^ (52 - p) % 2 ^ 64 ≡ 2 ^ (52 - p)
-  halved = one-shl (52 - p) (omega arith)
+  -- what the code adds before it cuts is half of the last place that stays, however it is made
+  halved : (1 * 2 ^ (52 - p) % 2 ^ 64 ≡ 2 ^ (52 - p)) × (1 * 2 ^ (53 - p) % 2 ^ 64 ≡ 2 * 2 ^ (52 - p))
+  halved = (one-shl (52 - p) (omega arith), one-shl (53 - p) (omega arith) ∙ twice p (c .before .pre .0 .digits))
 
   fits : {half : ℕ} → half ≡ 2 ^ (52 - p) → Fits w64 (c .table-root .result + half)
   fits {half} is = record { fits = omega (arith, is, root, wide-fits p e x (c .before .pre .0) (c .before .pre .1) (c .before .pre .2)) }
