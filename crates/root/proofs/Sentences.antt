@@ -119,7 +119,7 @@ module _ (f : Format) (x : ℕ) (g : Fine f) (small : f .digits ≤ 60) (some : 
   )
 
   -- what stands under the root, times 4 ^ H, is four times the operand
-  scaled : 2 ^ (p + 1) * W * 4 ^ H ≡ 4 * (units f x * 2 ^ low f)
+  pub scaled : 2 ^ (p + 1) * W * 4 ^ H ≡ 4 * (units f x * 2 ^ low f)
   scaled =
       move (2 ^ (p + 1)) W (4 ^ H) (units f x) (2 ^ (f .emax - 1)) (split .value)
       ∙ ap (λ (z : ℕ). units f x * z) (sym (pow-add 2 (p + 1) (f .emax - 1)) ∙ ap (λ (z : ℕ). 2 ^ z) (sum (f .emax) p (g .least) (g .room)) ∙ pow-add 2 2 (low f))
@@ -134,7 +134,7 @@ module _ (f : Format) (x : ℕ) (g : Fine f) (small : f .digits ≤ 60) (some : 
       last-move : (u l : ℕ) → u * (4 * l) ≡ 4 * (u * l)
       last-move u l = omega arith
 
-  squared : (n : ℕ) → square (n * 2 ^ H) ≡ n * n * 4 ^ H
+  pub squared : (n : ℕ) → square (n * 2 ^ H) ≡ n * n * 4 ^ H
   squared n = swap n (2 ^ H) ∙ ap (λ (z : ℕ). n * n * z) (sym (four-pow H))
     where
       swap : (n h : ℕ) → n * h * (n * h) ≡ n * n * (h * h)

@@ -2,9 +2,9 @@
 // after some of its rounds. All but the table engine and the functions of a width is written once, over p,
 // the digits of a format, and emax, its largest exponent.
 pub mod double;
-mod finite;
+pub mod finite;
 mod narrow;
-mod operand;
+pub mod operand;
 pub mod partial;
 mod rounds;
 pub mod single;
