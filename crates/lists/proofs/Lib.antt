@@ -1,0 +1,14 @@
+pub mod Characters
+pub mod Hex
+pub mod Flags
+pub mod Verdicts
+pub mod Keeping
+pub mod Progress
+pub mod Report
+pub mod First
+pub mod Pieces
+pub mod Cutting
+pub mod Grammars
+pub mod Splitting
+pub mod Squares
+pub mod Writing
