@@ -1,4 +1,4 @@
-/* igholmaz: roots, scaling and powers of f32 and f64, with proved bits.
+/* igholmaz: roots, scaling and powers of f32 and f64, and the check of lists of roots, with proved bits.
  *
  * Every operand and result is an IEEE 754 bit pattern ("word"): uint32_t for f32, uint64_t for f64. Names end
  * in f or d as those of libm.rs do. Where a result is NaN it is IGHOLMAZ_NAN_F or IGHOLMAZ_NAN_D; only fabs
@@ -32,6 +32,7 @@ extern "C" {
 #define IGHOLMAZ_BATCH_MOST 4096  /* elements of a batch */
 #define IGHOLMAZ_ROUNDS_MOST_F 25 /* rounds of a partial root of an f32 */
 #define IGHOLMAZ_ROUNDS_MOST_D 54 /* rounds of a partial root of an f64 */
+#define IGHOLMAZ_LINE_KEPT 37     /* bytes of a line that are kept: one more than the longest well-formed line has */
 
 /* Of roots and scaling: number is 0; an f32 word stands in the low half of word. */
 typedef struct {
@@ -61,6 +62,32 @@ typedef struct {
     uint32_t number;
     size_t count;
 } igholmaz_batch;
+
+/* A line of a list, without its newline: the first held bytes count. In what a call returns zeros follow them, as far
+ * as there is room. Compare fields and not memory: padding is not set. */
+typedef struct {
+    uint8_t bytes[IGHOLMAZ_LINE_KEPT];
+    size_t held;
+} igholmaz_line;
+
+/* Of lists: how many lines were read, how many of them agree and how many are malformed; number is that of the
+ * first line that disagrees, counted from 1 over all lines, and first is that line, of at most 36 bytes. None
+ * disagrees: number is 0 and first is empty. Each of the four stops at 2^64 - 1, so all lines agree where
+ * lines > 0 && malformed == 0 && number == 0; agree == lines does not say it. */
+typedef struct {
+    uint64_t lines;
+    uint64_t agree;
+    uint64_t malformed;
+    uint64_t number;
+    igholmaz_line first;
+} igholmaz_tally;
+
+/* The reader's state between two pieces: the tally of the lines that ended, and the line that did not, of which at
+ * most IGHOLMAZ_LINE_KEPT bytes are kept. */
+typedef struct {
+    igholmaz_tally tally;
+    igholmaz_line line;
+} igholmaz_testfloat;
 
 /* x with its sign bit cleared and every other bit kept, in a NaN too. */
 uint32_t igholmaz_fabsf(uint32_t x);
@@ -111,6 +138,23 @@ igholmaz_batch igholmaz_powf_batch(const uint32_t *xs, size_t xs_len, const uint
                                    uint32_t *out, size_t out_len);
 igholmaz_batch igholmaz_powd_batch(const uint64_t *xs, size_t xs_len, const uint64_t *ys, size_t ys_len,
                                    uint64_t *out, size_t out_len);
+
+/* Reads a list of Berkeley TestFloat's f16_sqrt, f32_sqrt or f64_sqrt in pieces of any size: start gives the
+ * state before the first piece, feed the state after one more, finish the tally of the whole list. Any cutting
+ * of a list gives the same tally. The state is the caller's, to be copied, kept and fed on after finish; any state
+ * is taken without a fault.
+ *
+ * A line ends at a newline; bytes after the last newline, if any, are a line too. A well-formed line is operand,
+ * result and flags: W, W and 2 hexadecimal digits in either case, one blank between, where W is 4, 8 or 16 for
+ * f16, f32 or f64; a list may mix them. Any other line is malformed: an empty one, say, or one that ends in a
+ * carriage return. A well-formed line agrees when its result and flags are those of the operand's root, rounded to
+ * nearest even as TestFloat does unless it is told otherwise, and disagrees if not. A NaN agrees with any NaN.
+ * Flags are inexact 1, underflow 2, overflow 4, divide by zero 8, invalid 16. A root is invalid of a negative
+ * nonzero number and of a signalling NaN, whose quiet bit is clear; it is inexact where it is rounded; it has no
+ * other flag. */
+igholmaz_testfloat igholmaz_testfloat_start(void);
+igholmaz_testfloat igholmaz_testfloat_feed(igholmaz_testfloat state, const uint8_t *piece, size_t piece_len);
+igholmaz_tally igholmaz_testfloat_finish(igholmaz_testfloat state);
 
 #ifdef __cplusplus
 }

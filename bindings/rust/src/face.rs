@@ -6,6 +6,8 @@ pub const BATCH_MOST: usize = 4096;
 pub const ROUNDS_MOST_F: u32 = 25;
 /// The most rounds of a partial root of an f64.
 pub const ROUNDS_MOST_D: u32 = 54;
+/// The bytes of a line of a list that are kept.
+pub const LINE_KEPT: usize = 37;
 
 /// Of roots and scaling. An f32 word stands in the low half.
 #[repr(C)]
@@ -41,6 +43,46 @@ pub struct Sorted {
 pub struct Batch {
     pub number: u32,
     pub count: usize,
+}
+
+/// A line of a list: the first `held` bytes count, zeros follow.
+#[repr(C)]
+#[derive(Clone, Copy, PartialEq, Eq, Hash)]
+pub struct Line {
+    pub bytes: [u8; LINE_KEPT],
+    pub held: usize,
+}
+
+/// As text, since a list is one.
+impl core::fmt::Debug for Line {
+    fn fmt(&self, f: &mut core::fmt::Formatter<'_>) -> core::fmt::Result {
+        write!(f, "\"{}\"", self.bytes[..self.held.min(LINE_KEPT)].escape_ascii())
+    }
+}
+
+/// Of lists. The number is 0 where no line disagrees.
+#[repr(C)]
+#[derive(Clone, Copy, Debug, PartialEq, Eq)]
+pub struct Tally {
+    pub lines: u64,
+    pub agree: u64,
+    pub malformed: u64,
+    pub number: u64,
+    pub first: Line,
+}
+
+/// Of a list between two pieces: the tally of the lines that ended, and the line that did not.
+#[repr(C)]
+#[derive(Clone, Copy, Debug, PartialEq, Eq)]
+pub struct Testfloat {
+    pub tally: Tally,
+    pub line: Line,
+}
+
+extern "C" {
+    pub fn igholmaz_testfloat_start() -> Testfloat;
+    pub fn igholmaz_testfloat_feed(state: Testfloat, piece: *const u8, piece_len: usize) -> Testfloat;
+    pub fn igholmaz_testfloat_finish(state: Testfloat) -> Tally;
 }
 
 macro_rules! face {

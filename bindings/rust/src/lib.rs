@@ -2,7 +2,7 @@
 //!
 //! The functions here take and return words: IEEE 754 bit patterns, `u32` for f32 and `u64` for f64. Names end
 //! in f or d. Where a result is NaN it is [`NAN_F`] or [`NAN_D`]; only fabs keeps the NaN that it was given.
-//! Module [`libm`] has the single functions over floats.
+//! Module [`libm`] has the single functions over floats, module [`testfloat`] the check of TestFloat's lists.
 //!
 //! ```
 //! assert_eq!(igholmaz::sqrtf(0x40000000), 0x3fb504f3); // the root of 2
@@ -14,6 +14,7 @@
 mod answers;
 mod face;
 pub mod libm;
+pub mod testfloat;
 #[cfg(test)]
 mod tests;
 

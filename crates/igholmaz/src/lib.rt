@@ -11,7 +11,10 @@ ghost use Rattle.power.specs.Power.{pow32, pow64};
 ghost use Rattle.power.specs.Sorting.{sorted, toldSettled, toldOpen};
 ghost use Rattle.igholmaz.specs.Face.{laid};
 ghost use Rattle.batch.specs.Batches.{Mapped, Zipped};
+ghost use Rattle.lists.specs.Reader.{Started, Fed, Finished};
 use batch::outcome::Batch;
+use lists::reader::State;
+use lists::tally::Tally;
 use root::partial::PartialRoot;
 use sorting::SortedPower;
 use sorting::laid_out;
@@ -171,4 +174,25 @@ pub extern "C" fn igholmaz_powd_batch(xs: &[u64], ys: &[u64], out: &mut [u64]) -
     ensures { λ r. ⌜ Zipped pow64 (now (xs .entry)) (now (ys .entry)) (now (out .entry)) (now (out .exit)) r ⌝ }
 {
     batch::double::powd_batch(xs, ys, out)
+}
+
+#[no_mangle]
+pub extern "C" fn igholmaz_testfloat_start() -> State
+    ensures { λ r. ⌜ Started r ⌝ }
+{
+    lists::reader::start()
+}
+
+#[no_mangle]
+pub extern "C" fn igholmaz_testfloat_feed(state: State, piece: &[u8]) -> State
+    ensures { λ r. ⌜ Fed state (now (piece .entry)) r ⌝ }
+{
+    lists::reader::feed(state, piece)
+}
+
+#[no_mangle]
+pub extern "C" fn igholmaz_testfloat_finish(state: State) -> Tally
+    ensures { λ r. ⌜ Finished state r ⌝ }
+{
+    lists::reader::finish(state)
 }
