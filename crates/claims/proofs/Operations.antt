@@ -7,7 +7,7 @@ use lib.IntN.{ℤ}
 use lib.Ieee.{up, down}
 use lib.Ieee.Fits.{down-pos}
 use borrow.Author.Tests.{ltb-true, leb-true}
-use Rattle.words.specs.Format.{Format, binary32, binary64, top, infinity, magnitude, units}
+use Rattle.words.specs.Format.{Format, binary16, binary32, binary64, top, infinity, magnitude, units}
 use Rattle.words.specs.Rounding.{rounded}
 use Rattle.words.proofs.Words.{infinity-some, infinity-below}
 use Rattle.words.proofs.Nearest.{rounded-is-nearest}
@@ -49,6 +49,10 @@ module _ (f : Format) (P : 2 ≤ f .digits) (E : 1 ≤ f .emax) (x : ℕ) (X : x
   }
 
 -- ---- at each width
+
+-- request 7 holds lists of f16_sqrt to it too
+pub request-7-root-16 : (x : ℕ) → x < 2 ^ 16 → SquareRoot binary16 x (rootWord binary16 x)
+request-7-root-16 x X = square-root binary16 (omega arith) (omega arith) (omega arith) x X
 
 pub demand-2-root-32 : (x : ℕ) → x < 2 ^ 32 → SquareRoot binary32 x (rootWord binary32 x)
 demand-2-root-32 x X = square-root binary32 (omega arith) (omega arith) (omega arith) x X
