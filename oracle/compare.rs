@@ -2,12 +2,20 @@
 //! names choose some functions and facts. Exit status 0: nothing differs, or every planted fault was caught.
 
 mod checks;
+mod damage;
 mod draws;
 mod facts;
+mod list_draws;
+#[allow(dead_code)] // oracle/lists.rs uses the rest
+mod listing;
 mod operations;
 mod parts;
 mod pieces;
+#[cfg(target_arch = "x86_64")]
+mod processor;
+mod reader;
 mod sides;
+mod streams;
 mod words;
 
 use checks::Tally;

@@ -1,5 +1,6 @@
 //! The parts of the comparison: for each function of the port and each fact, which operands and how many.
 
+use crate::checks::Tally;
 use crate::draws;
 use crate::operations::{Operation, Width, D, F};
 use crate::pieces::{drawing, every, listing, Part, Scale};
@@ -61,6 +62,7 @@ pub fn parts(scale: Scale) -> Vec<Part> {
         roots_by_fours(&mut all, scale, w);
         facts_of_powers(&mut all, scale, w);
     }
+    testfloat_lists(&mut all, scale);
     all
 }
 
@@ -198,5 +200,24 @@ fn facts_of_powers(all: &mut Vec<Part>, scale: Scale, w: &'static Width) {
     drawing(all, scale, nan, 23, 28, move |d, t| {
         let (x, y) = draws::any_power(f, d);
         t.number(w, x, y)
+    });
+}
+
+/// The reader of TestFloat lists. A piece of work is some drawn lists or states, all of them of the piece's own draw.
+fn testfloat_lists(all: &mut Vec<Part>, scale: Scale) {
+    let mut part = |label: &'static str, quick, full, each: fn(&mut Draw, &mut Tally)| {
+        let pieces = if scale.full { full } else { quick };
+        let run = move |piece, t: &mut Tally| each(&mut Draw::new(scale.seed, label, piece), t);
+        all.push(Part { name: "testfloat", label: label.into(), pieces, run: Box::new(run) });
+    };
+    part("drawn lists, each piece size", 1 << 9, 1 << 15, |d, t| (0..16).for_each(|_| t.every_size(d)));
+    part("each byte in each place", 1 << 7, 1 << 13, |d, t| t.every_byte(d));
+    part("drawn lists, drawn cuts", 1 << 9, 1 << 14, |d, t| t.cut_anywhere(d));
+    part("any state", 1 << 9, 1 << 15, |d, t| (0..1 << 10).for_each(|_| t.any_state(d)));
+    #[cfg(target_arch = "x86_64")]
+    part("the processor's lines", 1 << 9, 1 << 14, |d, t| {
+        for f in [&F, &D].map(|w| w.sqrt.format) {
+            (0..1 << 11).for_each(|_| t.by_processor(f, draws::root(f, d)))
+        }
     });
 }
