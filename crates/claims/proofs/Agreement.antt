@@ -21,6 +21,9 @@ use Rattle.power.specs.declared.answer.Sorted.the-variants.{Settled, Open}
 use Rattle.batch.specs.Batches.{Mapped, Zipped}
 use Rattle.batch.specs.declared.outcome.Batch.{Batch}
 use Rattle.batch.proofs.Answers.{unique}
+use Rattle.lists.specs.Reader.{Started, Fed, Finished}
+use Rattle.lists.specs.declared.reader.State.{State}
+use Rattle.lists.specs.declared.tally.Tally.{Tally}
 
 same : {A : Type 0} {a r s : A} → r ≡ a → s ≡ a → r ≡ s
 same p q = p ∙ sym q
@@ -92,3 +95,14 @@ powf-batch-agrees xs ys before after after' r s p q = unique p q
 
 pub powd-batch-agrees : (xs ys before : List ℕ) → Agree (Zipped pow64 xs ys before)
 powd-batch-agrees xs ys before after after' r s p q = unique p q
+
+-- ---- the reader of TestFloat lists, on any state
+
+pub start-agrees : (r s : State) → Started r → Started s → r ≡ s
+start-agrees r s = same
+
+pub feed-agrees : (state : State) (piece : List ℕ) (r s : State) → Fed state piece r → Fed state piece s → r ≡ s
+feed-agrees state piece r s = same
+
+pub finish-agrees : (state : State) (r s : Tally) → Finished state r → Finished state s → r ≡ s
+finish-agrees state r s = same
