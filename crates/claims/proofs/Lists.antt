@@ -15,7 +15,7 @@ use Rattle.root.proofs.Words.{Fine}
 use Rattle.root.specs.Root.{floorRoot, digitsAt, significand, halves, whole, rootAt, rootWord}
 use Rattle.lists.specs.Digits.{amongOf, digitOf, hexadecimal, numberFrom}
 use Rattle.lists.specs.Judge.{Judge, rootFlags, rootJudged}
-use Rattle.lists.specs.Lines.{wellFormed, same, compared, verdict}
+use Rattle.lists.specs.Lines.{wellFormed, sameResult, compared, verdict}
 use Rattle.lists.specs.Grammar.{Fields}
 use Rattle.lists.specs.Counts.{lastLine, linesOf, written, plain, allPlain, Lined, agrees, malformed, disagrees, capped, count, firstLine, firstNumber, report}
 use Rattle.lists.specs.Reader.{joined, lineOf, tallyOf, Run}
@@ -95,10 +95,10 @@ pub request-7-written-64 : ByWriting binary64 16
 request-7-written-64 = Writing.written-64
 
 -- "NaN results compare as NaN": where the library's is one, any NaN in the list agrees with it, and nothing else; any other result by its bits
-pub request-7-nan : (f : Format) (a b : ℕ) → isNaN f a ≡ true → same f a b ≡ isNaN f b
+pub request-7-nan : (f : Format) (a b : ℕ) → isNaN f a ≡ true → sameResult f a b ≡ isNaN f b
 request-7-nan f a b e = ap (λ (n : Bool). cond n (isNaN f b) (eqb a b)) e
 
-pub request-7-not-nan : (f : Format) (a b : ℕ) → isNaN f a ≡ false → same f a b ≡ eqb a b
+pub request-7-not-nan : (f : Format) (a b : ℕ) → isNaN f a ≡ false → sameResult f a b ≡ eqb a b
 request-7-not-nan f a b e = ap (λ (n : Bool). cond n (isNaN f b) (eqb a b)) e
 
 -- "flags use TestFloat's bits and request 1's meaning"

@@ -9,7 +9,7 @@ use lib.ListN.{length, take, length-take}
 use borrow.Author.Tests.{eq-eqb, ne-eqb}
 use Rattle.lists.specs.Judge.{Judge, rootJudged}
 use Rattle.lists.specs.Lines.{verdict}
-use Rattle.lists.specs.Counts.{Totals, more, newline}
+use Rattle.lists.specs.Counts.{Totals, oneMore, newline}
 use Rattle.lists.specs.Reader.{ended, endedBy, textOf, totalsOf, Progress, step, finished}
 use Rattle.lists.specs.declared.line.Verdict.{Verdict}
 use Rattle.lists.specs.declared.line.Verdict.the-variants.{Malformed, Agrees, Disagrees}
@@ -30,11 +30,11 @@ module _ (t : Tally) (l : List ℕ) where
   unfolding ended
   by-verdict e = sym (ap (λ (v : Verdict). endedBy v (totalsOf t) l) e)
 
-  pub ended-malformed : (n m : ℕ) → verdict rootJudged l ≡ Malformed → n ≡ more (t .lines) → m ≡ more (t .malformed)
+  pub ended-malformed : (n m : ℕ) → verdict rootJudged l ≡ Malformed → n ≡ oneMore (t .lines) → m ≡ oneMore (t .malformed)
       → tallied n (t .agree) m (t .number) (textOf (t .first)) ≡ ended rootJudged (totalsOf t) l
   ended-malformed n m e a b = (λ i. tallied (a i) (t .agree) (b i) (t .number) (textOf (t .first))) ∙ by-verdict e
 
-  pub ended-agrees : (n m : ℕ) → verdict rootJudged l ≡ Agrees → n ≡ more (t .lines) → m ≡ more (t .agree)
+  pub ended-agrees : (n m : ℕ) → verdict rootJudged l ≡ Agrees → n ≡ oneMore (t .lines) → m ≡ oneMore (t .agree)
       → tallied n m (t .malformed) (t .number) (textOf (t .first)) ≡ ended rootJudged (totalsOf t) l
   ended-agrees n m e a b = (λ i. tallied (a i) (b i) (t .malformed) (t .number) (textOf (t .first))) ∙ by-verdict e
 
@@ -45,14 +45,14 @@ module _ (t : Tally) (l : List ℕ) where
   abbrev as-later : ℕ → Totals
   as-later n = tallied n (t .agree) (t .malformed) (t .number) (textOf (t .first))
 
-  ended-disagrees : (n : ℕ) (b : Bool) → verdict rootJudged l ≡ Disagrees → n ≡ more (t .lines) → eqb (t .number) 0 ≡ b
+  ended-disagrees : (n : ℕ) (b : Bool) → verdict rootJudged l ≡ Disagrees → n ≡ oneMore (t .lines) → eqb (t .number) 0 ≡ b
       → cond b (as-first n) (as-later n) ≡ ended rootJudged (totalsOf t) l
   ended-disagrees n b e a z = (λ i. cond (sym z i) (as-first (a i)) (as-later (a i))) ∙ by-verdict e
 
-  pub ended-first : (n : ℕ) → verdict rootJudged l ≡ Disagrees → n ≡ more (t .lines) → t .number ≡ 0 → as-first n ≡ ended rootJudged (totalsOf t) l
+  pub ended-first : (n : ℕ) → verdict rootJudged l ≡ Disagrees → n ≡ oneMore (t .lines) → t .number ≡ 0 → as-first n ≡ ended rootJudged (totalsOf t) l
   ended-first n e a z = ended-disagrees n true e a (eq-eqb _ _ z)
 
-  pub ended-later : (n : ℕ) → verdict rootJudged l ≡ Disagrees → n ≡ more (t .lines) → ¬ (t .number ≡ 0) → as-later n ≡ ended rootJudged (totalsOf t) l
+  pub ended-later : (n : ℕ) → verdict rootJudged l ≡ Disagrees → n ≡ oneMore (t .lines) → ¬ (t .number ≡ 0) → as-later n ≡ ended rootJudged (totalsOf t) l
   ended-later n e a z = ended-disagrees n false e a (ne-eqb _ _ z)
 
 -- ---- one byte more

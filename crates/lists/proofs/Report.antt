@@ -12,7 +12,7 @@ use lib.Seq.{take-all, take-take, take-append-le}
 use borrow.Author.Tests.{ne-eqb}
 use Rattle.lists.specs.Judge.{Judge}
 use Rattle.lists.specs.Lines.{verdict}
-use Rattle.lists.specs.Counts.{newline, lastLine, linesFrom, linesOf, capped, more, isMalformed, isAgreed, isDisagreed, malformed, agrees, disagrees, count, firstLine, firstNumber}
+use Rattle.lists.specs.Counts.{newline, lastLine, linesFrom, linesOf, capped, oneMore, isMalformed, isAgreed, isDisagreed, malformed, agrees, disagrees, count, firstLine, firstNumber}
 use Rattle.lists.specs.Counts.{Totals, reportOf, report}
 use Rattle.lists.specs.Reader.{Progress, endedBy, ended, fed, nothing, begun, finished}
 use Rattle.lists.specs.declared.line.Verdict.{Verdict}
@@ -83,8 +83,8 @@ line-by-line j (b ∷ s) t l = by-byte j t l b s (line-by-line j s (ended j t l)
 
 -- ---- counting
 
-more-capped : (n : ℕ) → more (capped n) ≡ capped (n + 1)
-more-capped n = omega arith
+one-more-capped : (n : ℕ) → oneMore (capped n) ≡ capped (n + 1)
+one-more-capped n = omega arith
 
 abbrev at : ℕ → ℕ → ℕ → ℕ → List ℕ → Totals
 at n a m k f = tallied (capped n) (capped a) (capped m) k f
@@ -118,21 +118,21 @@ module _ (j : Judge) (l : List ℕ) (ls : List (List ℕ)) (n a m : ℕ) where
   -- one line more on the counts
   ended-malformed : (k : ℕ) (f : List ℕ) → verdict j l ≡ Malformed → ended j (at n a m k f) l ≡ at (n + 1) a (m + 1) k f
   unfolding ended
-  ended-malformed k f e = ap (λ (v : Verdict). endedBy v (at n a m k f) l) e ∙ (λ i. tallied (more-capped n i) (capped a) (more-capped m i) k f)
+  ended-malformed k f e = ap (λ (v : Verdict). endedBy v (at n a m k f) l) e ∙ (λ i. tallied (one-more-capped n i) (capped a) (one-more-capped m i) k f)
 
   ended-agrees : (k : ℕ) (f : List ℕ) → verdict j l ≡ Agrees → ended j (at n a m k f) l ≡ at (n + 1) (a + 1) m k f
   unfolding ended
-  ended-agrees k f e = ap (λ (v : Verdict). endedBy v (at n a m k f) l) e ∙ (λ i. tallied (more-capped n i) (more-capped a i) (capped m) k f)
+  ended-agrees k f e = ap (λ (v : Verdict). endedBy v (at n a m k f) l) e ∙ (λ i. tallied (one-more-capped n i) (one-more-capped a i) (capped m) k f)
 
   ended-first : verdict j l ≡ Disagrees → ended j (at n a m 0 []) l ≡ at (n + 1) a m (capped (n + 1)) l
   unfolding ended
-  ended-first e = ap (λ (v : Verdict). endedBy v (at n a m 0 []) l) e ∙ (λ i. tallied (more-capped n i) (capped a) (capped m) (more-capped n i) l)
+  ended-first e = ap (λ (v : Verdict). endedBy v (at n a m 0 []) l) e ∙ (λ i. tallied (one-more-capped n i) (capped a) (capped m) (one-more-capped n i) l)
 
   ended-later : (k : ℕ) (f : List ℕ) → ¬ (k ≡ 0) → verdict j l ≡ Disagrees → ended j (at n a m k f) l ≡ at (n + 1) a m k f
   unfolding ended
   ended-later k f z e =
       ap (λ (v : Verdict). endedBy v (at n a m k f) l) e
-      ∙ (λ i. cond (ne-eqb k 0 z i) (tallied (more-capped n i) (capped a) (capped m) (more-capped n i) l) (tallied (more-capped n i) (capped a) (capped m) k f))
+      ∙ (λ i. cond (ne-eqb k 0 z i) (tallied (one-more-capped n i) (capped a) (capped m) (one-more-capped n i) l) (tallied (one-more-capped n i) (capped a) (capped m) k f))
 
   -- after the first that disagrees
   later-cons : (k : ℕ) (f : List ℕ) → ¬ (k ≡ 0) → ((n a m : ℕ) → endedAll j (at n a m k f) ls ≡ counted j n a m k f ls) → (v : Verdict) → verdict j l ≡ v

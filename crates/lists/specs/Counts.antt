@@ -1,5 +1,5 @@
 -- What a whole stream gives: its lines, how many there are, agree and are malformed, and the first that disagrees. Definitions only.
-use Prim.Native.Nat.{ℕ, _+_, min}
+use Prim.Native.Nat.{ℕ, _+_, _-_, _^_, min}
 use mathlib.Core.Path.{_≡_}
 use mathlib.Core.Bool.{Bool, true, false, not, _&&_, cond}
 use mathlib.Core.List.{List, [], _∷_, _++_}
@@ -53,15 +53,15 @@ pub record Lined (s : List ℕ) : Type 0 where
 -- ---- counts
 
 -- counts stop at 2 ^ 64 - 1
-abbrev pub most : ℕ
-most = 18446744073709551615
+abbrev pub lastCount : ℕ
+lastCount = 2 ^ 64 - 1
 
 abbrev pub capped : ℕ → ℕ
-capped n = min n most
+capped n = min n lastCount
 
 -- a count goes up by one
-abbrev pub more : ℕ → ℕ
-more n = capped (n + 1)
+abbrev pub oneMore : ℕ → ℕ
+oneMore n = capped (n + 1)
 
 -- the lines of each kind
 abbrev pub isMalformed : Verdict → Bool

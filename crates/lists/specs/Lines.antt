@@ -13,7 +13,7 @@ use Rattle.lists.specs.declared.line.Numbers.{Numbers}
 use Rattle.lists.specs.declared.line.Verdict.{Verdict}
 use Rattle.lists.specs.declared.line.Verdict.the-variants.{Malformed, Agrees, Disagrees}
 
--- ---- W, W and 2 digits, one blank between
+-- ---- W, W and 2 hexadecimal digits, one blank between
 
 abbrev pub operandText : ℕ → List ℕ → List ℕ
 operandText w l = take w l
@@ -36,14 +36,14 @@ wellFormed w l =
 -- ---- a line is held to a judge
 
 -- NaN results compare as NaN
-abbrev pub same : Format → ℕ → ℕ → Bool
-same f a b = cond (isNaN f a) (isNaN f b) (eqb a b)
+abbrev pub sameResult : Format → ℕ → ℕ → Bool
+sameResult f a b = cond (isNaN f a) (isNaN f b) (eqb a b)
 
 -- whether a result and flags are those that are held to be right
 abbrev pub agree : Judged → Format → ℕ → ℕ → Bool
-agree j f result flags = same f (j .word) result && eqb (j .flags) flags
+agree j f result flags = sameResult f (j .word) result && eqb (j .flags) flags
 
--- what is said of a line of words of w digits
+-- what is said of a line whose words have w hexadecimal digits
 unfoldable pub compared : Judge → Format → ℕ → List ℕ → Verdict
 compared j f w l = cond (agree (j f (numberOf (operandText w l))) f (numberOf (resultText w l)) (numberOf (flagsText w l))) Agrees Disagrees
 
@@ -58,7 +58,7 @@ verdict j l =
     (cond (wellFormed 16 l) (compared j binary64 16 l)
     Malformed))
 
--- ---- what the code reads of a line that is as long as one of words of w digits
+-- ---- what the code reads of a line that is as long as one whose words have w hexadecimal digits
 
 pub record NumbersRead (w : ℕ) (l : List ℕ) (r : Numbers) : Type 0 where
   pub well-formed : r .ok ≡ wellFormed w l

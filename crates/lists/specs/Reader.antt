@@ -7,7 +7,7 @@ use lib.Dec.{eqb}
 use lib.ListN.{length, take, drop, getD, replicate}
 use Rattle.lists.specs.Judge.{Judge, rootJudged}
 use Rattle.lists.specs.Lines.{verdict}
-use Rattle.lists.specs.Counts.{Totals, more, newline, plain}
+use Rattle.lists.specs.Counts.{Totals, oneMore, newline, plain}
 use Rattle.lists.specs.declared.line.Verdict.{Verdict}
 use Rattle.lists.specs.declared.line.Verdict.the-variants.{Malformed, Agrees, Disagrees}
 use Rattle.lists.specs.declared.tally.Line.{Line}
@@ -17,12 +17,12 @@ use Rattle.lists.specs.declared.reader.State.{State}
 -- ---- one line more
 
 abbrev pub endedBy : Verdict → Totals → List ℕ → Totals
-endedBy Malformed t l = record { lines = more (t .lines); agree = t .agree; malformed = more (t .malformed); number = t .number; first = t .first }
-endedBy Agrees t l = record { lines = more (t .lines); agree = more (t .agree); malformed = t .malformed; number = t .number; first = t .first }
+endedBy Malformed t l = record { lines = oneMore (t .lines); agree = t .agree; malformed = oneMore (t .malformed); number = t .number; first = t .first }
+endedBy Agrees t l = record { lines = oneMore (t .lines); agree = oneMore (t .agree); malformed = t .malformed; number = t .number; first = t .first }
 endedBy Disagrees t l =
     cond (eqb (t .number) 0)
-    (record { lines = more (t .lines); agree = t .agree; malformed = t .malformed; number = more (t .lines); first = l })
-    (record { lines = more (t .lines); agree = t .agree; malformed = t .malformed; number = t .number; first = t .first })
+    (record { lines = oneMore (t .lines); agree = t .agree; malformed = t .malformed; number = oneMore (t .lines); first = l })
+    (record { lines = oneMore (t .lines); agree = t .agree; malformed = t .malformed; number = t .number; first = t .first })
 
 unfoldable pub ended : Judge → Totals → List ℕ → Totals
 ended j t l = endedBy (verdict j l) t l

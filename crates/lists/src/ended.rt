@@ -1,7 +1,7 @@
 // One line more: its verdict, and the counts after it.
 ghost use mathlib.Core.Path.{_≡_};
 ghost use Rattle.lists.specs.Judge.{rootJudged};
-ghost use Rattle.lists.specs.Counts.{more};
+ghost use Rattle.lists.specs.Counts.{oneMore};
 ghost use Rattle.lists.specs.Reader.{ended, textOf, totalsOf, tallyOf};
 use super::buffer::at_most_all;
 use super::buffer::longer;
@@ -65,7 +65,7 @@ pub fn settled_tally(t: Tally) -> Tally
 
 // A count goes up by one, and stops at 2^64 - 1.
 fn one_more(n: u64) -> u64
-    ensures { λ r. ⌜ r ≡ more n ⌝ }
+    ensures { λ r. ⌜ r ≡ oneMore n ⌝ }
 {
     if n < u64::MAX { n + 1 } else { n }
 }

@@ -6,7 +6,7 @@ ghost use lib.ListN.{length};
 ghost use Rattle.words.specs.Format.{format, top, isNaN};
 ghost use Rattle.words.specs.Rounding.{Held};
 ghost use Rattle.lists.specs.Judge.{rootJudged};
-ghost use Rattle.lists.specs.Lines.{same, agree, verdictAt, verdict, NumbersRead};
+ghost use Rattle.lists.specs.Lines.{sameResult, agree, verdictAt, verdict, NumbersRead};
 use super::digits::hex_number;
 use super::judge::judge;
 use super::marks::marks_of;
@@ -90,7 +90,7 @@ fn agrees(x: u64, result: u64, flags: u64, p: u32, emax: u32) -> bool
 // Whether two results are the same word, or both NaNs.
 fn same_result(a: u64, b: u64, p: u32, emax: u32) -> bool
     requires { ⌜ Held p emax × (a < 2 * top (format p emax)) × (b < 2 * top (format p emax)) ⌝ }
-    ensures { λ r. ⌜ r ≡ same (format p emax) a b ⌝ }
+    ensures { λ r. ⌜ r ≡ sameResult (format p emax) a b ⌝ }
 {
     if is_nan(a, p, emax) {
         return is_nan(b, p, emax);

@@ -7,7 +7,7 @@ use borrow.Author.Needs.{needs}
 use lib.ListN.{take}
 use Rattle.lists.specs.Judge.{rootJudged}
 use Rattle.lists.specs.Lines.{verdict}
-use Rattle.lists.specs.Counts.{more}
+use Rattle.lists.specs.Counts.{oneMore}
 use Rattle.lists.specs.Reader.{textOf, totalsOf}
 use Rattle.lists.specs.declared.tally.Line.{Line}
 use Rattle.lists.specs.declared.tally.Tally.{Tally}
@@ -28,7 +28,7 @@ module _ (c : tie.After-verdict-of) where
   told = sym (c .verdict-of .ensures)
 
   -- the line is counted as read
-  counted : c .before .one-more .result ≡ more (t .lines)
+  counted : c .before .one-more .result ≡ oneMore (t .lines)
   counted = c .before .one-more .ensures
 
 returns : tie.Need-returns

@@ -9,7 +9,7 @@ use Rattle.words.specs.Format.{Format, format, top}
 use Rattle.words.specs.Rounding.{Held}
 use Rattle.root.proofs.Words.{held-fine, root-fits}
 use Rattle.lists.specs.Judge.{rootJudged}
-use Rattle.lists.specs.Lines.{same, agree}
+use Rattle.lists.specs.Lines.{sameResult, agree}
 use Rattle.lists.specs.declared.judge.Judged.{Judged}
 use Rattle.lists.proofs.line.agrees.Statement.{statement}
 use Rattle.lists.proofs.line.agrees.Tie as tie
@@ -17,7 +17,7 @@ use Rattle.lists.proofs.line.agrees.Tie as tie
 fits : (p e x : ℕ) (r : Judged) → Held p e → x < 2 * top (format p e) → r ≡ rootJudged (format p e) x → r .word < 2 * top (format p e)
 fits p e x r h l q = subst (λ (z : ℕ). z < 2 * top (format p e)) (sym (ap (λ (r : Judged). r .word) q)) (root-fits (format p e) x (held-fine p e h) (omega (arith, h .small)) l)
 
-by-same : (j r : Judged) (f : Format) (a b : ℕ) (t : Bool) → r ≡ j → same f (r .word) a ≡ t → agree j f a b ≡ (t && eqb (r .flags) b)
+by-same : (j r : Judged) (f : Format) (a b : ℕ) (t : Bool) → r ≡ j → sameResult f (r .word) a ≡ t → agree j f a b ≡ (t && eqb (r .flags) b)
 by-same j r f a b t e h = ap (λ (j : Judged). agree j f a b) (sym e) ∙ ap (λ (t : Bool). t && eqb (r .flags) b) h
 
 module _ (c : tie.After-same-result) where

@@ -5,7 +5,7 @@ use mathlib.Core.Bool.{Bool, true, false, cond}
 use borrow.Author.Needs.{needs}
 use lib.Dec.{eqb}
 use Rattle.words.specs.Format.{Format, format, isNaN}
-use Rattle.lists.specs.Lines.{same}
+use Rattle.lists.specs.Lines.{sameResult}
 use Rattle.lists.proofs.line.same_result.Statement.{statement}
 use Rattle.lists.proofs.line.same_result.Tie as tie
 
@@ -19,7 +19,7 @@ module _ (c : tie.After-is-nan) where
   abbrev b : ℕ
   b = c .before .args .b
 
-  by-nan : (t : Bool) → c .is-nan .result ≡ t → cond t (isNaN f b) (eqb a b) ≡ same f a b
+  by-nan : (t : Bool) → c .is-nan .result ≡ t → cond t (isNaN f b) (eqb a b) ≡ sameResult f a b
   by-nan t e = sym (ap (λ (t : Bool). cond t (isNaN f b) (eqb a b)) (sym (c .is-nan .ensures) ∙ e))
 
 pub same-result-spec : {M : Type 1} → statement M
