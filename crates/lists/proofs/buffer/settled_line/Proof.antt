@@ -52,5 +52,5 @@ settled-line-spec =
     (λ c. search needs)
     (λ c. search needs)
     (λ c. search needs)
-    (λ c. fill-next (c .before .loop .inv) (c .loop-test .taken))
+    (λ c. fill-next (c .before .loop .inv) (omega (arith, c .loop-test .taken)))
     returns)

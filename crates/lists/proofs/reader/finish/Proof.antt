@@ -30,7 +30,7 @@ returns-2 : tie.Need-returns-2
 returns-2 c =
     let d = c .before .before .before in
     c .settled-tally2 .ensures
-    ∙ ap tallyOf (c .before .ended-line .ensures ∙ finish-line (t d) (line d .bytes) (line d .held) (c .before .before .if1 .left) (sized d))
+    ∙ ap tallyOf (c .before .ended-line .ensures ∙ finish-line (t d) (line d .bytes) (line d .held) (λ z. omega (arith, z, c .before .before .if1 .left)) (sized d))
 
 pub finish-spec : {M : Type 1} → statement M
 finish-spec = tie.close (tie.spec (λ c κs. search needs) returns (λ c κs. search needs) (λ c κs. search needs) returns-2)

@@ -23,5 +23,5 @@ line-end-spec =
     (λ c. search-end (c .before .before .before .loop .inv) (λ h. omega (arith, c .if1 .taken)))
     (λ c. search needs)
     (λ c. search needs)
-    (λ c. search-next (c .before .before .before .loop .inv) (omega (arith, c .before .before .loop-test .taken)) (λ e. c .if1 .left e))
+    (λ c. search-next (c .before .before .before .loop .inv) (omega (arith, c .before .before .loop-test .taken)) (λ e. omega (arith, e, c .if1 .left)))
     (λ c. search-end (c .before .loop .inv) (λ h. omega (arith, h, c .loop-test .left))))
