@@ -1,10 +1,14 @@
 -- `scale::double::scaled64` meets its contract: a NaN's word apart, the word of the kit's product with 2 ^ n. Assumes nothing.
-use mathlib.Core.Path.{_≡_, sym, ap, _∙_}
+use mathlib.Core.Path.{_≡_, refl, sym, ap, _∙_}
 use Prim.Native.Nat.{ℕ, _+_, _*_, _/_, _%_, _^_, _≤_, _<_}
 use native.Mathlib.Nat.{div-add-mod', mul-add-mod-self-right, mod-eq-of-lt, mod-lt}
 use lib.Pow.{pow-pos}
 use native.Mathlib.Omega.{arith}
 use lib.Ieee.{binary64}
+use mathlib.Core.Bool.{true, false}
+use lib.IntN.{ℤ, pos, negsuc}
+use lib.Signed.{leZ, ltZ}
+use borrow.Author.Tests.{le-ltb, leb-true}
 use mir.Syntax.{w32}
 use mir.ValLaws.{toZ-ofZ}
 use Rattle.words.specs.Format as Format
@@ -30,20 +34,35 @@ above x h = omega (arith, doubled x)
 within : (x : ℕ) → x * 2 % 2 ^ 64 ≤ 0xffe0_0000_0000_0000 → x % 2 ^ 63 ≤ 0x7ff0_0000_0000_0000
 within x h = omega (arith, doubled x)
 
--- past the test the word is no NaN's
-number : (c : tie.Else1) → c .before .args .x % 2 ^ 63 ≤ 0x7ff0_0000_0000_0000
-number c = within (c .before .args .x) (c .if1 .left)
+-- under the test the word is no NaN's
+number : (c : tie.Then1) → c .before .args .x % 2 ^ 63 ≤ 0x7ff0_0000_0000_0000
+number c = within (c .before .args .x) (c .if1 .taken)
+
+-- at most is not above
+not-above : (a b : ℤ) → leZ a b ≡ true → ltZ b a ≡ false
+not-above (pos m) (pos n) e = le-ltb n m (leb-true m n e)
+not-above (pos m) (negsuc n) e = sym e
+not-above (negsuc m) (pos n) e = refl
+not-above (negsuc m) (negsuc n) e = le-ltb m n (leb-true n m e)
 
 -- n is handed on as the machine holds it
 back : (s : tie.Start) → scaled Format.binary64 (s .args .x) (held w32 (s .args .n)) ≡ scaled Format.binary64 (s .args .x) (s .args .n)
 back s = ap (scaled Format.binary64 (s .args .x)) (toZ-ofZ w32 (s .args .n) (s .fits .n))
 
+near64-requires : tie.Need-near64-requires
+near64-requires c κs =
+    let s = c .before .before .before in
+    let n = held w32 (s .args .n) in
+    let u = not-above n (pos 1023) (c .before .if2 .taken) in
+    let d = not-above (negsuc 1021) n (c .if3 .taken) in
+    (number (c .before .before), near-normal binary64 w32 (s .args .n) (s .fits .n) u d)
+
 pub scaled64-spec : {M : Type 1} → statement M
 scaled64-spec =
     tie.close
     (tie.spec
-    (λ c. scaled-nan Format.binary64 (c .before .args .x) (c .before .args .n) (above (c .before .args .x) (c .if1 .taken)))
+    near64-requires
+    (λ c. c .near64 .ensures ∙ back (c .before .before .before .before))
     (λ c κs. number (c .before))
     (λ c. c .number64 .ensures ∙ back (c .before .before .before))
-    (λ c κs. let s = c .before .before .before in (number (c .before .before), near-normal binary64 w32 (s .args .n) (s .fits .n) (c .before .if2 .left) (c .if3 .left)))
-    (λ c. c .near64 .ensures ∙ back (c .before .before .before .before)))
+    (λ c. scaled-nan Format.binary64 (c .before .args .x) (c .before .args .n) (above (c .before .args .x) (c .if1 .left))))
