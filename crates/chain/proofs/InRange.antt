@@ -20,8 +20,9 @@ use Rattle.bounds.proofs.SumBounds.{near}
 use Rattle.chain.proofs.Known.{Known}
 use Rattle.chain.proofs.Sizes.{hid-pos, ones-most}
 use Rattle.chain.proofs.NearestWhole.{Rounded}
+use Rattle.chain.proofs.Halves.{Limited, range-below}
 use Rattle.chain.proofs.TwoTo.{wholeOf, raising}
-use Rattle.chain.proofs.Exp2.{Limited, range-below, exp2-raisable}
+use Rattle.chain.proofs.Exp2.{exp2-raisable}
 use Rattle.chain.proofs.Product.{Split}
 
 -- ---- |hi| from |lo| and |z|, where z is their rounded sum: off by half a unit in the 21st digit at most

@@ -6,6 +6,7 @@ pub mod Sizes
 pub mod Raise
 pub mod HighWord
 pub mod NearestWhole
+pub mod Halves
 pub mod TwoTo
 pub mod Exp2
 pub mod ProductNumbers
@@ -19,3 +20,8 @@ pub mod Reduced
 pub mod NearOne
 pub mod Open
 pub mod Numbers
+pub mod SameFloat
+pub mod LargeSum
+pub mod ByAdding
+pub mod Turned
+pub mod ClearPair

@@ -9,7 +9,7 @@ use Rattle.power.specs.declared.answer.Fate.{Fate}
 use Rattle.power.specs.declared.answer.Fate.the-variants.{Over, Under, Within}
 use Rattle.power.specs.Width.{Width, Two}
 use Rattle.power.specs.Chain.{logOf, productOf, fateOf, signOf, finishOf}
-use Rattle.power.specs.NoNan.{Number, OpenPair, Reaches, Walked}
+use Rattle.power.specs.NoNan.{Number, Finite, OpenPair, Reaches, Walked}
 use Rattle.power.proofs.Limits.{over-within, under-within}
 use Rattle.bounds.proofs.Signed.{Num}
 use Rattle.bounds.proofs.RoundedSums.{add-res}
@@ -49,3 +49,13 @@ module _ (w : Width) (K : Known w) where
       let m = magnitude (ours f) x in
       let b = reached w K m y (o .base) (o .not-one) (o .exponent) r in
       walk (ofBits f y) (logOf w m (magnitude (ours f) y / 2 ^ w .below)) s (yn w K m y (o .base) (o .not-one) (o .exponent)) (b .0) (b .1)
+
+  -- the two parts of the product are finite
+  pub product-finite : (x y : ℕ) → OpenPair (ours f) x y → Reaches w (magnitude (ours f) x / 2 ^ w .below) (magnitude (ours f) y / 2 ^ w .below)
+      → let p = productOf w (ofBits f y) (logOf w (magnitude (ours f) x) (magnitude (ours f) y / 2 ^ w .below)) in
+      Finite (p .hi) × Finite (p .lo)
+  product-finite x y o r =
+      let m = magnitude (ours f) x in
+      let b = reached w K m y (o .base) (o .not-one) (o .exponent) r in
+      let S = split w K (ofBits f y) (logOf w m (magnitude (ours f) y / 2 ^ w .below)) (yn w K m y (o .base) (o .not-one) (o .exponent)) (b .0) (b .1) in
+      (S .hi-num .finite, S .lo-num .finite)

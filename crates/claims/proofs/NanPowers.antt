@@ -22,7 +22,7 @@ use Rattle.power.specs.Power.{single, double, powOf}
 use Rattle.power.proofs.Rules.{rule-nan-x, rule-nan-y}
 use Rattle.power.specs.NoNan.{OpenPair}
 use Rattle.power.proofs.ByRule.{Left, by-test, sorted-by-rule, off-edge, finite-base}
-use Rattle.power.proofs.Unsettled.{both}
+use Rattle.power.proofs.Words.{both}
 use Rattle.power.proofs.AnnexF.{below-zero}
 use Rattle.power.proofs.Nan.{over-number, square-number}
 use Rattle.chain.proofs.Known.{Known}

@@ -15,3 +15,11 @@ pub mod Unsettled
 pub mod Edges
 pub mod AnnexF
 pub mod Silent
+pub mod Subnormal
+pub mod Normalized
+pub mod Picked
+pub mod SignOf
+pub mod Filled
+pub mod Stages
+pub mod Clear
+pub mod Blocks

@@ -2,8 +2,8 @@
 use Prim.Native.Nat.{ℕ, _+_, _-_, _*_, _%_, _<_, _≤_}
 use mathlib.Core.Path.{_≡_, refl}
 use mathlib.Core.Bool.{Bool, true, false, cond, _||_}
-use mathlib.Core.Logic.{_⊎_, inl, inr}
-use native.Mathlib.Nat.{mod-eq-of-lt, mod-eq-sub-mod}
+use mathlib.Core.Logic.{_⊎_, inl, inr, ⊎-elim}
+use native.Mathlib.Nat.{le-trans, le-of-eq, mod-le, mod-eq-of-lt, mod-eq-sub-mod}
 use native.Mathlib.Omega.{arith}
 use lib.Dec.{ltb}
 use lib.Ieee.{Float, nan, inf, fin, add, sub, lt, le, isNan, toBits, top}
@@ -105,3 +105,18 @@ within-number w p l e = by (sum w p) (within w p e)
     by nan i = absurd (between (toBits (w .format) nan) (toBits-nan (w .format)) i)
     by (inf s) i = refl
     by (fin s m k) i = refl
+
+-- its size is at most the larger limit
+pub within-most : (w : Width) (p : Two) → w .large ≤ w .small → fateOf w Over Under Within p ≡ Within → toBits (w .format) (sum w p) % top (w .format) ≤ w .small
+within-most w p l e =
+    ⊎-elim (λ h. le-trans (mod-le x t) (le-trans h l))
+    (λ h. le-trans (le-of-eq (mod-eq-sub-mod (h .0))) (le-trans (mod-le (x - t) t) (less x t (w .small) (h .1)))) (within w p e)
+  where
+    t : ℕ
+    t = top (w .format)
+
+    x : ℕ
+    x = toBits (w .format) (sum w p)
+
+    less : (x t s : ℕ) → x ≤ t + s → x - t ≤ s
+    less x t s h = omega arith

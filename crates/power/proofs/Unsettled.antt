@@ -12,12 +12,9 @@ use Rattle.words.specs.Format.{infinity, top, one, magnitude, ours}
 use Rattle.words.proofs.Words.{infinity-below}
 use Rattle.power.specs.Sorting.{twoWord, halfWord, sorted, sorted5, sorted6, sorted7}
 use Rattle.power.specs.Plain.{plainBase, plainExponent, plain}
+use Rattle.power.proofs.Words.{both}
 
-pub both : (a b : Bool) → a && b ≡ true → (a ≡ true) × (b ≡ true)
-both true b e = (refl, e)
-both false b e = absurd (subst T (sym e) tt)
-
-off : (a : Bool) → not a ≡ true → a ≡ false
+pub off : (a : Bool) → not a ≡ true → a ≡ false
 off false e = refl
 off true e = absurd (subst T (sym e) tt)
 

@@ -1,10 +1,11 @@
 -- Masks and shifts of words, as the code writes them, in plain arithmetic. Assumes nothing.
 use Prim.Native.Nat.{ℕ, suc, _+_, _-_, _*_, _/_, _%_, _^_, _<_, _≤_}
-use mathlib.Core.Path.{_≡_, sym, ap, _∙_, subst}
+use mathlib.Core.Path.{_≡_, refl, sym, ap, _∙_, subst}
+use mathlib.Core.Bool.{Bool, true, false, true≢false, _&&_}
 use lib.Bits.{bitAnd, bitOr, and-mask, and-high, or-shifted-r}
-use native.Mathlib.Nat.{mul-mod-left, mod-lt, lt-of-lt-of-le, lt-of-le-of-lt, div-mul-le-self, add-comm, mul-comm, one-mul}
+use native.Mathlib.Nat.{mul-mod-left, mod-lt, lt-of-lt-of-le, lt-of-le-of-lt, div-mul-le-self, add-comm, mul-comm, one-mul, mod-eq-of-lt}
 use native.Mathlib.Omega.{arith}
-use lib.Pow.{mod-pow-add, shl-shr, shr-mod, shr-lt, pow-pos, pow-mono, ones-split, ones-lt, high}
+use lib.Pow.{mod-pow-add, shl-shr, shr-mod, shr-lt, pow-pos, pow-mono, pow-lt, pow-add, ones-split, ones-lt, high}
 use Rattle.words.specs.Format.{format, top}
 use Rattle.words.specs.Rounding.{Held}
 use Rattle.words.proofs.Digits.{room}
@@ -15,6 +16,11 @@ size32 x = and-mask x 31
 
 pub size64 : (x : ℕ) → bitAnd x 0x7fffffffffffffff ≡ x % 2 ^ 63
 size64 x = and-mask x 63
+
+-- two tests that are one
+pub both : (a b : Bool) → (a && b) ≡ true → (a ≡ true) × (b ≡ true)
+both true b e = (refl, e)
+both false b e = absurd (true≢false (sym e))
 
 -- the mask of the j highest of j + k digits
 pub cut : (j k n : ℕ) → n < 2 ^ (j + k) → bitAnd n (2 ^ (j + k) - 2 ^ k) ≡ n / 2 ^ k * 2 ^ k
@@ -66,6 +72,48 @@ shifted j d n =
     let c = ap (λ (q : ℕ). (q % 2 ^ j) * 2 ^ d) (shl-shr n d) in
     let e = mul-mod-left n (2 ^ d) in
     omega arith
+
+-- ---- a number of p + 1 digits by its word x, without its s last digits, rounded to nearest, a tie to even: in words of b digits, no sum is too large
+module _ (b p x s : ℕ) (S : 1 ≤ s) (B : s < b) (P : p + 2 ≤ b) where
+  -- half of what is lost, the digits, and whether what stays of them is odd, as the code finds them and in plain arithmetic
+  abbrev half : ℕ
+  half = 1 * 2 ^ (s - 1) % 2 ^ b
+
+  abbrev m : ℕ
+  m = bitOr (bitAnd x (2 ^ p - 1)) (2 ^ p)
+
+  abbrev odd : ℕ
+  odd = bitAnd (m / 2 ^ s) 1
+
+  half-is : half ≡ 2 ^ (s - 1)
+  half-is = ap (λ (n : ℕ). n % 2 ^ b) (one-mul (2 ^ (s - 1))) ∙ mod-eq-of-lt (pow-lt {i = s - 1} {j = b} (omega arith))
+
+  odd-is : odd ≡ (2 ^ p + x % 2 ^ p) / 2 ^ s % 2
+  odd-is = and-mask (m / 2 ^ s) 1 ∙ ap (λ (n : ℕ). n / 2 ^ s % 2) (led p x)
+
+  pub half-some : 1 ≤ half
+  half-some = subst (λ (n : ℕ). 1 ≤ n) (sym half-is) (pow-pos (s - 1))
+
+  sums : (half - 1 + odd < 2 ^ b) × (m + (half - 1 + odd) < 2 ^ b)
+  sums =
+      go half odd m (2 ^ (s - 1)) (2 ^ p) (x % 2 ^ p) (2 ^ (b - 2)) (2 ^ b) half-is (led p x) (subst (λ (n : ℕ). n < 2) (sym (and-mask (m / 2 ^ s) 1)) (mod-lt (m / 2 ^ s) (omega arith)))
+      (mod-lt x (pow-pos p)) (pow-mono {i = s - 1} {j = b - 2} (omega arith)) (pow-mono {i = p} {j = b - 2} (omega arith)) (pow-pos (s - 1))
+      (ap (λ (n : ℕ). 2 ^ n) (parts b p P) ∙ pow-add 2 (b - 2) 2)
+    where
+      parts : (b p : ℕ) → p + 2 ≤ b → b ≡ b - 2 + 2
+      parts b p l = omega arith
+
+      go : (a o n h d t q u : ℕ) → a ≡ h → n ≡ d + t → o < 2 → t < d → h ≤ q → d ≤ q → 0 < h → u ≡ q * 4 → (a - 1 + o < u) × (n + (a - 1 + o) < u)
+      go a o n h d t q u e i l k y z c v = (omega arith, omega arith)
+
+  pub bias-small : half - 1 + odd < 2 ^ b
+  bias-small = sums .0
+
+  pub sum-small : m + (half - 1 + odd) < 2 ^ b
+  sum-small = sums .1
+
+  pub half-even-is : (m + (half - 1 + odd)) / 2 ^ s ≡ (2 ^ p + x % 2 ^ p + (2 ^ (s - 1) - 1 + (2 ^ p + x % 2 ^ p) / 2 ^ s % 2)) / 2 ^ s
+  half-even-is = λ i. (led p x i + (half-is i - 1 + odd-is i)) / 2 ^ s
 
 -- ---- a format that 64 bits hold
 

@@ -8,3 +8,4 @@ pub mod Table32
 pub mod Table64
 pub mod Power
 pub mod Plain
+pub mod Stages

@@ -3,8 +3,9 @@ use Prim.Native.Nat.{ℕ, _-_, _/_, _%_, _^_, _<_}
 use mathlib.Core.Path.{_≡_}
 use mathlib.Core.Bool.{Bool, false, cond}
 use mathlib.Core.Logic.{_⊎_}
-use lib.Dec.{ltb}
+use lib.Dec.{T, ltb}
 use lib.Ieee.{Float, isNan, add, sub, toBits, hid, top}
+use lib.Ieee.Scale.{finite}
 use Rattle.words.specs.Format.{Format, infinity, one, magnitude, ours}
 use Rattle.power.specs.Width.{Width, Two}
 use Rattle.power.specs.Chain.{productOf, fateOf, nearestOf, partsOf, exponentialOf, exp2Of, signOf, finishOf}
@@ -13,6 +14,10 @@ use Rattle.power.specs.declared.answer.Fate.the-variants.{Over, Under, W
 -- a float that is no NaN
 abbrev pub Number : Float → Type 0
 Number x = isNan x ≡ false
+
+-- a float that is a number and no infinity
+abbrev pub Finite : Float → Type 0
+Finite x = T (finite x)
 
 -- what the sorting leaves to the chain, as far as the chain's numbers depend on it: x and y are finite, and |x| is not 1
 pub record OpenPair (f : Format) (x y : ℕ) : Type 0 where

@@ -1,11 +1,13 @@
 // 2**(p_h + p_l), and whether it is within the format.
 ghost use mathlib.Core.Path.{_≡_};
-ghost use Prim.Native.Nat.{_<_, _≤_, _%_, _^_};
-ghost use lib.Ieee.{add, binary64};
+ghost use mathlib.Core.Bool.{true};
+ghost use Prim.Native.Nat.{_+_, _-_, _/_, _<_, _≤_, _%_, _^_};
+ghost use lib.Ieee.{Float, add, binary64, toBits};
 ghost use Rattle.power.specs.declared.answer.Fate.the-variants.{Over, Under, Within};
 ghost use Rattle.power.specs.Chain.{productOf, fateOf, nearestOf, partsOf, exponentialOf, raisedOf, exp2Of};
-ghost use Rattle.power.specs.NoNan.{Number, Raisable};
+ghost use Rattle.power.specs.NoNan.{Number, Finite, Raisable};
 ghost use Rattle.power.specs.Power.{double};
+ghost use Rattle.power.specs.Stages.{restOf, liftOf};
 ghost use Rattle.power_double.specs.Parts.{two, nearest};
 use super::halves::get_high_word;
 use super::halves::with_set_high_word;
@@ -24,6 +26,7 @@ use super::table::constant;
 use power::answer::Fate;
 use power::unbiased::unbiased;
 use scale::double::scale64;
+use words::bridge::to_word64;
 
 // Split up y into y1 + y2 and compute p_h + p_l = (y1 + y2) * (t1 + t2).
 pub fn product(y: f64, t: Pair) -> Pair
@@ -88,8 +91,65 @@ fn nearest_to(j: u32) -> Whole
     }
 }
 
+// What is left of p_h, n + 4096, and whether both are sure.
+pub struct Turn {
+    pub hi: f64,
+    pub e: u64,
+    pub sure: bool,
+}
+
+// h less n = [z + 0.5], and n + 4096. The last digit of 1.5 * 2^52 counts ones, so the sum with it is rounded to a
+// whole number; that is n where it is less than 0.5 from z. Not sure is a z halfway between two whole numbers, and one
+// whose high word is that of 0.5.
+pub fn turned(h: f64, z: f64) -> Turn
+    requires { ⌜ Number z × (toBits binary64 z % 2 ^ 63 < 0x40a0000000000000) ⌝ }
+    ensures { λ r. ⌜ (r .sure ≡ true → (r .hi ≡ restOf double h z) × (r .e ≡ liftOf double z)) × (r .e < 8192) ⌝ }
+    ensures { λ r. ⌜ ((l : Float) → Finite l → Finite h → Number (add binary64 l (r .hi))) ⌝ }
+{
+    let m = z + 6755399441055744.0;
+    let t = m - 6755399441055744.0;
+    let off = f64::to_bits(z - t) & 0x7fffffffffffffff;
+    let high = f64::to_bits(z) & 0x7fffffff00000000;
+    let sure = (off < 0x3fe0000000000000) & (high != 0x3fe0000000000000);
+    Turn {
+        hi: h - t,
+        e: f64::to_bits(m) - 0x4337fffffffff000,
+        sure,
+    }
+}
+
+// The same for every z within the limits: by the digits of its high word, where the sum is not sure.
+fn fraction(h: f64, z: f64) -> Turn
+    requires { ⌜ Number z × (toBits binary64 z % 2 ^ 63 ≤ 0x4090cc00ffffffff) ⌝ }
+    ensures { λ r. ⌜ (r .hi ≡ restOf double h z) × (r .e ≡ liftOf double z) × (r .e < 8192) ⌝ }
+{
+    let t = turned(h, z);
+    if t.sure {
+        return t;
+    }
+    let j = get_high_word(z);
+    if (j & 0x7fffffff) > 0x3fe00000 {
+        let n = nearest_to(j);
+        let size = n.size as u64;
+        return Turn {
+            hi: h - n.float,
+            e: if j >= 0x80000000 {
+                4096 - size
+            } else {
+                4096 + size
+            },
+            sure: true,
+        };
+    }
+    Turn {
+        hi: h,
+        e: 4096,
+        sure: true,
+    }
+}
+
 // z and w: (p_h + p_l) * log 2 in two parts.
-fn parts(p: Pair) -> Pair
+pub fn parts(p: Pair) -> Pair
     requires { ⌜ Number (add binary64 (p .lo) (p .hi)) ⌝ }
     ensures { λ r. ⌜ two r ≡ partsOf double (two p) ⌝ }
 {
@@ -104,7 +164,7 @@ fn parts(p: Pair) -> Pair
 }
 
 // 1 - (r - z), with z and w in `hi` and `lo`.
-fn exponential(q: Pair) -> f64
+pub fn exponential(q: Pair) -> f64
     ensures { λ r. ⌜ r ≡ exponentialOf double (two q) ⌝ }
 {
     let z = q.hi;
@@ -118,41 +178,41 @@ fn exponential(q: Pair) -> f64
     1.0 - (r - z)
 }
 
-// z * 2^n, n being e - 4096: n goes to the exponent's field; a subnormal output is scaled.
-fn raised(z: f64, e: u32) -> f64
-    requires { ⌜ (e < 8192) × Number z × Number (raisedOf double z e) ⌝ }
-    ensures { λ r. ⌜ r ≡ raisedOf double z e ⌝ }
+// The digits of a normal number's word w with the last s cut off: rounded to the nearest, and halfway to the even one.
+// That is the word of a subnormal output.
+fn lowered(w: u64, s: u64) -> u64
+    requires { ⌜ (1 ≤ s) × (s < 64) ⌝ }
+    ensures { λ r. ⌜ r ≡ (2 ^ 52 + w % 2 ^ 52 + (2 ^ (s - 1) - 1 + (2 ^ 52 + w % 2 ^ 52) / 2 ^ s % 2)) / 2 ^ s ⌝ }
 {
-    let j = std::num::wrapping_add_u32(get_high_word(z), e << 20);
-    if j >= 0x80000000 {
-        return scale64(z, unbiased(e, 4096));
-    }
-    if j < 0x00100000 {
-        return scale64(z, unbiased(e, 4096));
-    }
-    with_set_high_word(z, j)
+    let m = (w & 0x000fffffffffffff) | 0x0010000000000000;
+    (m + (((1 << (s - 1)) - 1) + ((m >> s) & 1))) >> s
 }
 
-// 2**(p_h + p_l), where it is within the format.
-pub fn exp2(p: Pair) -> f64
+// The word of z * 2^n, n being e - 4096: n goes to the exponent's field. A subnormal output is found in whole
+// numbers, since a multiplication that gives one is slow.
+fn raised(z: f64, e: u64) -> u64
+    requires { ⌜ (e < 8192) × Number z × Number (raisedOf double z e) ⌝ }
+    ensures { λ r. ⌜ r ≡ toBits binary64 (raisedOf double z e) ⌝ }
+{
+    let w = f64::to_bits(z);
+    let j = std::num::wrapping_add_u64(w, e << 52);
+    if std::num::wrapping_add_u64(j, 0xfff0000000000000) < 0x7ff0000000000000 {
+        return j;
+    }
+    let s = std::num::wrapping_sub_u64(4097, (w >> 52) + e);
+    if ((w >= 0x0010000000000000) & (w < 0x7ff0000000000000)) & ((s > 0) & (s < 64)) {
+        return lowered(w, s);
+    }
+    to_word64(scale64(z, unbiased(e as u32, 4096)))
+}
+
+// The word of 2**(p_h + p_l), where it is within the format.
+pub fn exp2(p: Pair) -> u64
     requires { ⌜ fateOf double Over Under Within (two p) ≡ Within ⌝ }
     requires { ⌜ Raisable double (two p) ⌝ }
-    ensures { λ r. ⌜ r ≡ exp2Of double (two p) ⌝ }
+    ensures { λ r. ⌜ r ≡ toBits binary64 (exp2Of double (two p)) ⌝ }
 {
-    let j = get_high_word(p.lo + p.hi);
-    if (j & 0x7fffffff) > 0x3fe00000 {
-        let n = nearest_to(j);
-        let q = Pair {
-            hi: p.hi - n.float,
-            lo: p.lo,
-        };
-        let e = if j >= 0x80000000 {
-            4096 - n.size
-        } else {
-            4096 + n.size
-        };
-        raised(exponential(parts(q)), e)
-    } else {
-        raised(exponential(parts(p)), 4096)
-    }
+    let f = fraction(p.hi, p.lo + p.hi);
+    let q = Pair { hi: f.hi, lo: p.lo };
+    raised(exponential(parts(q)), f.e)
 }

@@ -1,5 +1,8 @@
 // The open chain as a whole, and the power of every pair.
 ghost use mathlib.Core.Path.{_≡_};
+ghost use mathlib.Core.Bool.{cond};
+ghost use Prim.Native.Nat.{_+_, _%_, _^_};
+ghost use lib.Ieee.{binary64, toBits};
 ghost use Rattle.words.specs.Format as Words;
 ghost use Rattle.power.specs.NoNan.{Finishable, OpenPair};
 ghost use Rattle.power.specs.Chain.{overOf, underOf, finishOf, signOf, hugeOf, openOf};
@@ -31,16 +34,16 @@ fn under_flow(sn: f64) -> f64
     sn * constant(TINY) * constant(TINY)
 }
 
-// The chain's end: 2**(p_h + p_l) with the sign. Neither p_l + p_h nor, in range, 2 to it is a NaN.
-fn finish(p: Pair, sn: f64) -> f64
+// The chain's end: the word of 2**(p_h + p_l) with the sign. Neither p_l + p_h nor, in range, 2 to it is a NaN.
+fn finish(p: Pair, negative: bool) -> u64
     requires { ⌜ Finishable double (two p) ⌝ }
-    ensures { λ r. ⌜ r ≡ finishOf double (two p) sn ⌝ }
+    ensures { λ r. ⌜ r ≡ toBits binary64 (finishOf double (two p) (signOf double negative)) ⌝ }
 {
     let f = fate_of(p);
     match f {
-        Fate::Over => over_flow(sn),
-        Fate::Under => under_flow(sn),
-        Fate::Within => sn * exp2(p),
+        Fate::Over => to_word64(over_flow(sign(negative))),
+        Fate::Under => to_word64(under_flow(sign(negative))),
+        Fate::Within => with_sign(exp2(p), negative),
     }
 }
 
@@ -52,6 +55,17 @@ fn sign(negative: bool) -> f64
         of_word64(0xbff0000000000000)
     } else {
         1.0
+    }
+}
+
+// A word, or that of the number with the other sign.
+fn with_sign(w: u64, negative: bool) -> u64
+    ensures { λ r. ⌜ r ≡ cond negative ((w + 2 ^ 63) % 2 ^ 64) w ⌝ }
+{
+    if negative {
+        std::num::wrapping_add_u64(w, 0x8000000000000000)
+    } else {
+        w
     }
 }
 
@@ -100,7 +114,7 @@ fn open(x: u64, y: u64, negative: bool) -> u64
             return to_word64(over_flow(sn));
         }
     }
-    f64::to_bits(finish(product(of_word64(y), log_of(ax, iy)), sn))
+    finish(product(f64::from_bits(y), log_of(ax, iy)), negative)
 }
 
 // x to the y.

@@ -1,14 +1,12 @@
 // ax = 2^n * z with z near 1: what the logarithm starts from.
 ghost use mathlib.Core.Path.{_≡_};
 ghost use Prim.Native.Nat.{_+_, _<_, _≤_, _^_};
-ghost use Rattle.power.specs.Chain.{intervalOf, reducedOf, headOf, exponentOf};
+ghost use lib.Ieee as Ieee;
+ghost use Rattle.power.specs.Chain.{con, intervalOf, reducedOf, headOf, exponentOf};
+ghost use Rattle.power.specs.Places.{TWO};
 ghost use Rattle.power.specs.Power.{double};
 ghost use Rattle.power_double.specs.Parts.{reduction};
-use super::table::TWO53;
-use super::table::constant;
 use power::unbiased::unbiased;
-use words::bridge::of_word64;
-use words::bridge::to_word64;
 
 // The word of z, the place k of the constants in pairs, and n + 1076.
 pub struct Reduced {
@@ -17,35 +15,41 @@ pub struct Reduced {
     pub e: u32,
 }
 
-// Determine the interval: |x| < sqrt(3/2), |x| < sqrt(3), or above, where z is halved.
-fn interval(ix: u64, e: u32) -> Reduced
-    requires { ⌜ e ≤ 53 ⌝ }
+// Determine the interval: |x| < sqrt(3/2), |x| < sqrt(3), or above, where z is halved. By sums alone: what sqrt(3)
+// lacks to 2 is added, so that n is one more from there on, and the sign's place is reached from sqrt(3/2) on.
+pub fn interval(ix: u64, e: u32) -> Reduced
+    requires { ⌜ (ix < 2 ^ 63) × (e ≤ 53) ⌝ }
     ensures { λ r. ⌜ reduction r ≡ intervalOf double ix e ⌝ }
     ensures { λ r. ⌜ (r .ix < 2 ^ 62) × (r .k < 2) × (r .e < e + 4200) ⌝ }
 {
-    let j = ix & 0x000fffffffffffff;
-    let n = e + ((ix >> 52) as u32);
-    let ix = j | 0x3ff0000000000000;
-    if j < 0x3988f00000000 {
-        Reduced { ix, k: 0, e: n }
-    } else if j < 0xbb67a00000000 {
-        Reduced { ix, k: 1, e: n }
-    } else {
-        Reduced {
-            ix: ix - 0x0010000000000000,
-            k: 0,
-            e: n + 1,
-        }
+    let n = (ix + 0x0004498600000000) >> 52;
+    let z = (ix + 0x3ff0000000000000) - (n << 52);
+    let k = (z + 0x400c677100000000) >> 63;
+    Reduced {
+        ix: z,
+        k: k as usize,
+        e: e + (n as u32),
     }
+}
+
+// The word of a subnormal number times 2^53, by a shift: a multiplication of a subnormal number is slow.
+fn normalized(m: u64) -> u64
+    requires { ⌜ m < 2 ^ 52 ⌝ }
+    ensures { λ r. ⌜ r ≡ Ieee.toBits Ieee.binary64 (Ieee.mul Ieee.binary64 (Ieee.ofBits Ieee.binary64 m) (con double TWO)) ⌝ }
+    ensures { λ r. ⌜ r < 2 ^ 63 ⌝ }
+{
+    let s = u64::leading_zeros(m) - 11;
+    (((53 - s) as u64) << 52) + (m << s)
 }
 
 // A subnormal number is multiplied by 2^53 first.
 pub fn reduce(ix: u64) -> Reduced
+    requires { ⌜ ix < 2 ^ 63 ⌝ }
     ensures { λ r. ⌜ reduction r ≡ reducedOf double ix ⌝ }
     ensures { λ r. ⌜ (r .ix < 2 ^ 62) × (r .k < 2) × (r .e < 4300) ⌝ }
 {
     if ix < 0x0010000000000000 {
-        interval(to_word64(of_word64(ix) * constant(TWO53)), 0)
+        interval(normalized(ix), 0)
     } else {
         interval(ix, 53)
     }
@@ -57,11 +61,7 @@ pub fn head(ix: u64, k: usize) -> f64
     ensures { λ r. ⌜ r ≡ headOf double ix k ⌝ }
 {
     let is = ((ix >> 1) & 0xffffffff00000000) | 0x2000000000000000;
-    if k == 0 {
-        of_word64(is + 0x0008000000000000)
-    } else {
-        of_word64(is + 0x000c000000000000)
-    }
+    f64::from_bits(is + (0x0008000000000000 + ((k as u64) << 50)))
 }
 
 // n = e - 1076 as a float.

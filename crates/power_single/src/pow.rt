@@ -1,5 +1,8 @@
 // The open chain as a whole, and the power of every pair.
 ghost use mathlib.Core.Path.{_≡_};
+ghost use mathlib.Core.Bool.{cond};
+ghost use Prim.Native.Nat.{_+_, _%_, _^_};
+ghost use lib.Ieee.{binary32, toBits};
 ghost use Rattle.words.specs.Format as Words;
 ghost use Rattle.power.specs.NoNan.{Finishable, OpenPair};
 ghost use Rattle.power.specs.Chain.{overOf, underOf, finishOf, signOf, openOf};
@@ -31,16 +34,16 @@ fn under_flow(sn: f32) -> f32
     sn * constant(TINY) * constant(TINY)
 }
 
-// The chain's end: 2**(p_h + p_l) with the sign. Neither p_l + p_h nor, in range, 2 to it is a NaN.
-fn finish(p: Pair, sn: f32) -> f32
+// The chain's end: the word of 2**(p_h + p_l) with the sign. Neither p_l + p_h nor, in range, 2 to it is a NaN.
+fn finish(p: Pair, negative: bool) -> u32
     requires { ⌜ Finishable single (two p) ⌝ }
-    ensures { λ r. ⌜ r ≡ finishOf single (two p) sn ⌝ }
+    ensures { λ r. ⌜ r ≡ toBits binary32 (finishOf single (two p) (signOf single negative)) ⌝ }
 {
     let f = fate_of(p);
     match f {
-        Fate::Over => over_flow(sn),
-        Fate::Under => under_flow(sn),
-        Fate::Within => sn * exp2(p),
+        Fate::Over => to_word32(over_flow(sign(negative))),
+        Fate::Under => to_word32(under_flow(sign(negative))),
+        Fate::Within => with_sign(exp2(p), negative),
     }
 }
 
@@ -49,6 +52,17 @@ fn sign(negative: bool) -> f32
     ensures { λ r. ⌜ r ≡ signOf single negative ⌝ }
 {
     if negative { of_word32(0xbf800000) } else { 1.0 }
+}
+
+// A word, or that of the number with the other sign.
+fn with_sign(w: u32, negative: bool) -> u32
+    ensures { λ r. ⌜ r ≡ cond negative ((w + 2 ^ 31) % 2 ^ 32) w ⌝ }
+{
+    if negative {
+        std::num::wrapping_add_u32(w, 0x80000000)
+    } else {
+        w
+    }
 }
 
 // An open power. Above |y| = 2^27 it over- or underflows, unless x is close to one.
@@ -73,7 +87,7 @@ fn open(x: u32, y: u32, negative: bool) -> u32
             return to_word32(over_flow(sn));
         }
     }
-    f32::to_bits(finish(product(of_word32(y), log_of(ix, iy)), sn))
+    finish(product(f32::from_bits(y), log_of(ix, iy)), negative)
 }
 
 // x to the y.

@@ -3,6 +3,7 @@ use Prim.Native.Nat.{_/_, _%_, _^_}
 use mathlib.Core.Logic.{inl, inr, ⊎-elim}
 use mathlib.Core.Path.{_≡_}
 use mathlib.Core.Bool.{true}
+use native.Mathlib.Nat.{mod-lt}
 use native.Mathlib.Omega.{arith}
 use lib.Dec.{ltb}
 use borrow.Author.Tests.{lt-ltb, le-ltb, le-leb, lt-leb}
@@ -10,7 +11,7 @@ use lib.Ieee.{binary64, ofBits}
 use Rattle.power.specs.Chain.{logOf, openOf}
 use Rattle.power.specs.NoNan.{Reaches, Walked}
 use Rattle.power.specs.Power.{double}
-use Rattle.power.proofs.Nan.{is-number}
+use Rattle.power.proofs.Nan.{float-word}
 use Rattle.chain.proofs.Widths.{known64}
 use Rattle.chain.proofs.Numbers.{walked}
 use Rattle.power.proofs.Words.{size64}
@@ -111,56 +112,41 @@ reaches c =
     (c .if1 .came)
 
 -- the numbers on the way there
-way : (c : tie.After-of-word64) → let a = c .before .before .before .args in
+way : (c : tie.Joined1) → let a = c .before .before .args in
     Walked double (ofBits binary64 (a .y)) (logOf double (a .x % 2 ^ 63) (a .y % 2 ^ 63 / 2 ^ 32)) (a .negative)
 way c =
-    let a = c .before .before .before in
-    walked double known64 (a .args .x) (a .args .y) (a .args .negative) (a .pre) (reaches (c .before))
+    let a = c .before .before in
+    walked double known64 (a .args .x) (a .args .y) (a .args .negative) (a .pre) (reaches c)
+
+float-from-bits-product : tie.Need-float-from-bits-product
+float-from-bits-product c = float-word binary64 (c .before .before .args .y) (way c .exponent)
 
 log-of-requires : tie.Need-log-of-requires
-log-of-requires c κs = simp size64 (way c .logarithm .1)
+log-of-requires c κs = simp size64 (mod-lt (c .before .before .args .x) (omega arith), way c .logarithm .1)
 
 product-requires : tie.Need-product-requires
-product-requires c κs = simp (c .before .of-word64 .ensures) (way (c .before) .exponent)
+product-requires c κs = way (c .before) .exponent
 
 finish-requires : tie.Need-finish-requires
-finish-requires c κs = simp (c .product .ensures, c .before .log-of .ensures, c .before .before .of-word64 .ensures, size64) (way (c .before .before) .finish)
-
-float-to-bits-result : tie.Need-float-to-bits-result
-float-to-bits-result c =
-    let b = c .before .before in
-    let s = b .before .before .before .sign .ensures in
-    is-number _ (simp (c .finish .ensures, c .before .product .ensures, b .log-of .ensures, b .before .of-word64 .ensures, s, size64) (way (b .before) .answer))
+finish-requires c κs = simp (c .product .ensures, c .before .log-of .ensures, size64) (way (c .before .before) .finish)
 
 returns-6 : tie.Need-returns-6
 unfolding openOf
 returns-6 c =
     let b = c .before .before in
-    let j = b .before .before in
-    let s = j .before .sign .ensures in
     ⊎-elim
     (λ w. simp (
       c .finish .ensures,
       c .before .product .ensures,
       b .log-of .ensures,
-      b .before .of-word64 .ensures,
-      s,
       size64,
       lt-ltb _ _ (rw size64 at (w .0 .taken)),
       le-ltb _ _ (rw size64 at (w .1 .left)),
       le-ltb _ _ (rw size64 at (w .2 .left)),
       le-ltb _ _ (rw size64 at (w .3 .left)),
     ))
-    (λ w. simp (
-      c .finish .ensures,
-      c .before .product .ensures,
-      b .log-of .ensures,
-      b .before .of-word64 .ensures,
-      s,
-      size64,
-      le-ltb _ _ (rw size64 at (w .left)),
-    ))
-    (j .if1 .came)
+    (λ w. simp (c .finish .ensures, c .before .product .ensures, b .log-of .ensures, size64, le-ltb _ _ (rw size64 at (w .left))))
+    (b .before .if1 .came)
 
 pub open-spec : {M : Type 1} → statement M
 open-spec =
@@ -184,9 +170,8 @@ open-spec =
     (λ c κs. search needs)
     (λ c κs. search needs)
     returns-5
-    (λ c κs. search needs)
+    float-from-bits-product
     log-of-requires
     product-requires
     finish-requires
-    float-to-bits-result
     returns-6)

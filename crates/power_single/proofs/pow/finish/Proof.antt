@@ -1,8 +1,11 @@
--- `power_single::pow::finish` meets its contract: each return is the end of its fate, by `finish-ended`. Assumes nothing.
+-- `power_single::pow::finish` meets its contract: each return is the end of its fate, by `finish-ended` and `finish-within`. Assumes nothing.
 use mathlib.Core.Path.{sym, ap, _∙_}
-use lib.Ieee.{binary32, mul}
+use lib.Ieee.{binary32, toBits}
+use Rattle.power.specs.Chain.{overOf, underOf}
 use Rattle.power.specs.Power.{single}
 use Rattle.power.proofs.Cases.{finish-ended}
+use Rattle.power.proofs.Stages.{finish-within}
+use Rattle.power_single.specs.Parts.{two}
 use borrow.Author.Needs.{needs}
 use Rattle.power_single.proofs.pow.finish.Statement.{statement}
 use Rattle.power_single.proofs.pow.finish.Tie as tie
@@ -13,15 +16,24 @@ exp2-requires c κs =
     (e, c .before .before .before .pre .raisable e)
 
 returns : tie.Need-returns
-returns c = finish-ended single _ _ (c .before .before .before .fate-of .ensures) (c .before .enum-told .given .1) (c .over-flow .ensures)
+returns c =
+    let s = c .before .before in
+    c .to-word32 .ensures ∙ ap (toBits binary32)
+    (finish-ended single _ _ (s .before .before .before .fate-of .ensures) (s .before .enum-told .given .1) (c .before .over-flow .ensures ∙ ap (overOf single) (s .sign .ensures)))
 
 returns-2 : tie.Need-returns-2
-returns-2 c = finish-ended single _ _ (c .before .before .before .fate-of .ensures) (c .before .enum-told2 .given .1) (c .under-flow .ensures)
+returns-2 c =
+    let s = c .before .before in
+    c .to-word322 .ensures ∙ ap (toBits binary32)
+    (finish-ended single _ _ (s .before .before .before .fate-of .ensures) (s .before .enum-told2 .given .1) (c .before .under-flow .ensures ∙ ap (underOf single) (s .sign2 .ensures)))
 
 returns-3 : tie.Need-returns-3
 returns-3 c =
-    let b = c .before .before .before in
-    finish-ended single _ _ (b .fate-of .ensures) (c .before .enum-told3 .given .1) (ap (mul binary32 (b .before .args .sn)) (c .exp2 .ensures))
+    let t = c .before .before in
+    let f = t .before .before in
+    let a = f .before in
+    finish-within single (two (a .args .p)) (a .args .negative) (a .pre .raisable (sym (f .fate-of .ensures) ∙ t .enum-told3 .given .1) .answer)
+    (f .fate-of .ensures) (t .enum-told3 .given .1) (c .before .exp2 .ensures) (c .with-sign .ensures)
 
 pub finish-spec : {M : Type 1} → statement M
 finish-spec =
@@ -30,10 +42,15 @@ finish-spec =
     (λ c κs. c .pre .sum)
     (λ c. search needs)
     (λ c κs. search needs)
+    (λ c κs. search needs)
+    (λ c κs. search needs)
     (λ c. search needs)
+    (λ c κs. search needs)
+    (λ c κs. search needs)
     (λ c κs. search needs)
     (λ c. search needs)
     exp2-requires
+    (λ c κs. search needs)
     returns
     returns-2
     returns-3)

@@ -3,7 +3,7 @@ use Prim.Native.Nat.{ℕ, _%_, _^_}
 use mathlib.Core.Path.{_≡_}
 use mathlib.Core.Bool.{true, false}
 use mathlib.Core.Logic.{inl, inr, ⊎-elim}
-use native.Mathlib.Nat.{div-one}
+use native.Mathlib.Nat.{div-one, mod-lt}
 use native.Mathlib.Omega.{arith}
 use lib.Dec.{ltb}
 use borrow.Author.Tests.{lt-ltb, le-ltb, le-leb, lt-leb}
@@ -11,7 +11,7 @@ use lib.Ieee.{binary32, ofBits}
 use Rattle.power.specs.Chain.{logOf, openOf}
 use Rattle.power.specs.NoNan.{Reaches, Walked}
 use Rattle.power.specs.Power.{single}
-use Rattle.power.proofs.Nan.{is-number}
+use Rattle.power.proofs.Nan.{float-word}
 use Rattle.chain.proofs.Widths.{known32}
 use Rattle.chain.proofs.Numbers.{walked}
 use Rattle.power.proofs.Words.{size32}
@@ -106,40 +106,34 @@ reaches c =
     (c .if1 .came)
 
 -- the numbers on the way there
-way : (c : tie.After-of-word32) → let a = c .before .before .before .args in
+way : (c : tie.Joined1) → let a = c .before .before .args in
     Walked single (ofBits binary32 (a .y)) (logOf single (a .x % 2 ^ 31) (a .y % 2 ^ 31)) (a .negative)
 way c =
-    let a = c .before .before .before in
-    simp div-one at (walked single known32 (a .args .x) (a .args .y) (a .args .negative) (a .pre) (simp div-one (reaches (c .before))))
+    let a = c .before .before in
+    simp div-one at (walked single known32 (a .args .x) (a .args .y) (a .args .negative) (a .pre) (simp div-one (reaches c)))
+
+float-from-bits-product : tie.Need-float-from-bits-product
+float-from-bits-product c = float-word binary32 (c .before .before .args .y) (way c .exponent)
 
 log-of-requires : tie.Need-log-of-requires
-log-of-requires c κs = simp size32 (way c .logarithm .1)
+log-of-requires c κs = simp size32 (mod-lt (c .before .before .args .x) (omega arith), way c .logarithm .1)
 
 product-requires : tie.Need-product-requires
-product-requires c κs = simp (c .before .of-word32 .ensures) (way (c .before) .exponent)
+product-requires c κs = way (c .before) .exponent
 
 finish-requires : tie.Need-finish-requires
-finish-requires c κs = simp (c .product .ensures, c .before .log-of .ensures, c .before .before .of-word32 .ensures, size32) (way (c .before .before) .finish)
-
-float-to-bits-result : tie.Need-float-to-bits-result
-float-to-bits-result c =
-    let b = c .before .before in
-    let s = b .before .before .before .sign .ensures in
-    is-number _ (simp (c .finish .ensures, c .before .product .ensures, b .log-of .ensures, b .before .of-word32 .ensures, s, size32) (way (b .before) .answer))
+finish-requires c κs = simp (c .product .ensures, c .before .log-of .ensures, size32) (way (c .before .before) .finish)
 
 returns-5 : tie.Need-returns-5
 unfolding openOf
 returns-5 c =
     let b = c .before .before in
-    let j = b .before .before in
-    let s = j .before .sign .ensures in
+    let j = b .before in
     ⊎-elim
     (λ w. simp (
       c .finish .ensures,
       c .before .product .ensures,
       b .log-of .ensures,
-      b .before .of-word32 .ensures,
-      s,
       size32,
       div-one,
       lt-ltb _ _ (rw size32 at (w .0 .taken)),
@@ -147,16 +141,7 @@ returns-5 c =
       le-ltb _ _ (rw size32 at (w .1 .left)),
       le-ltb _ _ (rw size32 at (w .2 .left)),
     ))
-    (λ w. simp (
-      c .finish .ensures,
-      c .before .product .ensures,
-      b .log-of .ensures,
-      b .before .of-word32 .ensures,
-      s,
-      size32,
-      div-one,
-      le-ltb _ _ (rw size32 at (w .left)),
-    ))
+    (λ w. simp (c .finish .ensures, c .before .product .ensures, b .log-of .ensures, size32, div-one, le-ltb _ _ (rw size32 at (w .left))))
     (j .if1 .came)
 
 pub open-spec : {M : Type 1} → statement M
@@ -176,9 +161,8 @@ open-spec =
     (λ c κs. search needs)
     (λ c κs. search needs)
     returns-4
-    (λ c κs. search needs)
+    float-from-bits-product
     log-of-requires
     product-requires
     finish-requires
-    float-to-bits-result
     returns-5)
