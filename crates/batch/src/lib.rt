@@ -4,3 +4,4 @@ pub mod digits;
 pub mod double;
 pub mod outcome;
 pub mod single;
+pub mod stretch;
