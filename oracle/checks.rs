@@ -42,9 +42,7 @@ impl Tally {
     pub fn single(&mut self, op: &Operation, x: u64, y: u64) {
         let answer = (op.port)(x, y);
         let word = self.taken(answer.word);
-        let agrees = |theirs: u64| if op.bits { word == theirs } else { op.format.same(word, theirs) };
-        let good = answer.number == 0 && op.sides.iter().all(|(_, side)| agrees(side(x, y)));
-        self.held(good, || {
+        self.held(answer.number == 0 && agreed(op, x, y, word), || {
             let port = format!("{} (number {})", shown(op.format, word), answer.number);
             told(op.name, &operands(op, x, y), &answers(op, x, y), &port)
         });
@@ -113,8 +111,7 @@ impl Tally {
         });
     }
 
-    /// A batch over drawn operands: its number and count, the result words as single calls give them or
-    /// untouched, the words around them untouched, the operands kept.
+    /// A batch over drawn operands.
     pub fn batch(
         &mut self,
         batch: &Batched,
@@ -122,8 +119,14 @@ impl Tally {
         d: &mut Draw,
         draw: fn(Format, &mut Draw) -> (u64, u64),
     ) {
+        let pairs: Vec<(u64, u64)> = (0..lens[0].max(lens[1])).map(|_| draw(batch.single.format, d)).collect();
+        self.batch_of(batch, lens, &pairs, d)
+    }
+
+    /// A batch over operands given: its number and count, the result words as single calls and the other sides give
+    /// them or untouched, the words around them untouched, the operands kept.
+    pub fn batch_of(&mut self, batch: &Batched, lens: [usize; 3], pairs: &[(u64, u64)], d: &mut Draw) {
         let op = batch.single;
-        let pairs: Vec<(u64, u64)> = (0..lens[0].max(lens[1])).map(|_| draw(op.format, d)).collect();
         let xs: Vec<u64> = pairs[..lens[0]].iter().map(|pair| pair.0).collect();
         let ys: Vec<u64> = pairs[..lens[1]].iter().map(|pair| pair.1).collect();
         let before: Vec<u64> = (0..lens[2] + 2 * GUARD).map(|_| op.format.fit(d.next())).collect();
@@ -151,20 +154,28 @@ impl Tally {
         });
         for (i, (&old, &new)) in before.iter().zip(&after).enumerate() {
             let place = i.wrapping_sub(GUARD);
-            let inside = expected == 0 && place < lens[2];
-            let (got, wanted) = if inside {
-                let (x, y) = pairs[place];
-                (self.taken(new), (op.port)(x, y).word)
+            let what = |of: &str| format!("lengths {lens:?}, result {}, {of}", place as isize);
+            if expected == 0 && place < lens[2] {
+                let ((x, y), got) = (pairs[place], self.taken(new));
+                let wanted = (op.port)(x, y).word;
+                self.held(got == wanted && agreed(op, x, y, got), || {
+                    let others = answers(op, x, y) + &line("the single call", &shown(op.format, wanted));
+                    told(batch.name, &what(&operands(op, x, y)), &others, &shown(op.format, got))
+                });
             } else {
-                (new, old)
-            };
-            self.held(got == wanted, || {
-                let of = if inside { operands(op, pairs[place].0, pairs[place].1) } else { "untouched".into() };
-                let what = format!("lengths {lens:?}, result {}, {of}", place as isize);
-                told(batch.name, &what, &line("it should be", &shown(op.format, wanted)), &shown(op.format, got))
-            });
+                self.held(new == old, || {
+                    let others = line("it should be", &shown(op.format, old));
+                    told(batch.name, &what("untouched"), &others, &shown(op.format, new))
+                });
+            }
         }
     }
+}
+
+/// Whether every other side has the port's word.
+fn agreed(op: &Operation, x: u64, y: u64, word: u64) -> bool {
+    let same = |theirs: u64| if op.bits { word == theirs } else { op.format.same(word, theirs) };
+    op.sides.iter().all(|(_, side)| same(side(x, y)))
 }
 
 /// 2^(p+1)·Q² ≤ 4^k·W < 2^(p+1)·(Q+1)² and left-over 2^(k+1)·W − 2^(p+2−k)·Q², both sides of the first

@@ -1,6 +1,7 @@
 //! The comparison: compare MODE SEED [NAME...], as ./compare starts it. MODE is quick, full or planted; the
 //! names choose some functions and facts. Exit status 0: nothing differs, or every planted fault was caught.
 
+mod blocks;
 mod checks;
 mod damage;
 mod draws;

@@ -165,23 +165,41 @@ pub fn plain_scaling(f: Format, d: &mut Draw) -> (u64, u64) {
 }
 
 /// The operands of a power: x at the branches of the original, and y such that the power is finite, or at
-/// its limits, or at a branch of its own.
+/// its limits, or at a branch of its own; or both such that y·log2(x) is a whole number and a half, or the power is
+/// some units away from a limit.
 pub fn power(f: Format, d: &mut Draw) -> (u64, u64) {
-    let x = base(f, d);
+    let (x, y) = match d.below(16) {
+        0 => tied(f, d),
+        1 => limited(f, d),
+        _ => {
+            let x = base(f, d);
+            (x, exponent(f, d, x))
+        }
+    };
+    let whole = f.value(y).trunc() == f.value(y);
+    let turned = d.below(if whole { 2 } else { 16 }) == 0;
+    (if turned { x ^ f.sign() } else { x }, y)
+}
+
+/// The y of a power of x.
+fn exponent(f: Format, d: &mut Draw, x: u64) -> u64 {
     let log = f.value(x).log2();
-    let (top, bottom) = (f64::from(f.emax) + 1., 1. - f64::from(f.emax));
-    let least = bottom - f64::from(f.p) + 1.;
-    let y = match d.below(16) {
+    let [top, bottom, least] = limits(f);
+    match d.below(16) {
         0 => f.fit(d.next()),
-        1..=5 => f.word(d.real(least - 9., top + 9.) / log),
+        1..=4 => f.word(d.real(least - 9., top + 9.) / log),
+        5 => f.word(d.real(least - 2., bottom + 1.) / log),
         // y·log2(x) at overflow, at the least normal result, at the least subnormal one and below it.
         6 | 7 => {
-            let z = d.of(&[top, bottom, least, least - 1.]) * (1. + d.real(-1., 1.) / d.sized(50) as f64);
+            let z = about(d, &[top, bottom, least, least - 1.]);
             d.near(f, f.word(z / log), 2)
         }
-        // y·log2(x) at a half or a whole number.
+        // y·log2(x) at a half or a whole number, one in four times at 1/2 or -1/2.
         8 => {
-            let z = d.within(2 * least as i64, 2 * top as i64) as f64 / 2.;
+            let z = match d.below(4) {
+                0 => about(d, &[0.5, -0.5]),
+                _ => d.within(2 * least as i64, 2 * top as i64) as f64 / 2.,
+            };
             d.near(f, f.word(z / log), 2)
         }
         9 | 10 => {
@@ -200,10 +218,51 @@ pub fn power(f: Format, d: &mut Draw) -> (u64, u64) {
             d.near(f, f.word(settled), 2)
         }
         _ => operand(f, d),
+    }
+}
+
+/// The y·log2(x) from which on a power is too large, and those of the least normal and the least subnormal power.
+pub fn limits(f: Format) -> [f64; 3] {
+    let bottom = 1. - f64::from(f.emax);
+    [f64::from(f.emax) + 1., bottom, bottom - f64::from(f.p) + 1.]
+}
+
+/// One of some values, or a value next to it, each distance as likely.
+fn about(d: &mut Draw, values: &[f64]) -> f64 {
+    d.of(values) * (1. + d.real(-1., 1.) / d.sized(50) as f64)
+}
+
+/// x a power of two, some of them subnormal, and y an odd number over twice the even part of its exponent, so that
+/// y·log2(x) is exactly a whole number and a half; one of them next to that in half of the pairs.
+fn tied(f: Format, d: &mut Draw) -> (u64, u64) {
+    let (p, emax) = (i64::from(f.p), i64::from(f.emax));
+    let e = match d.below(8) {
+        0 => -emax - d.within(0, p - 2),
+        1..=3 => -(d.sized(f.emax.count_ones()) as i64),
+        _ => d.sized(f.emax.count_ones()) as i64,
     };
-    let whole = f.value(y).trunc() == f.value(y);
-    let turned = d.below(if whole { 2 } else { 16 }) == 0;
-    (if turned { x ^ f.sign() } else { x }, y)
+    let x = if e > -emax { f.power(e as i32) } else { 1 << (e + emax + p - 2) };
+    let even = 1 << e.trailing_zeros();
+    let halves = 2 * d.below((emax + p) as u64 / (e / even).unsigned_abs() + 1) + 1;
+    let y = f.word(d.of(&[1., -1.]) * halves as f64 / (2 * even) as f64);
+    match d.below(4) {
+        0 => (d.near(f, x, 2), y),
+        1 => (x, d.near(f, y, 2)),
+        _ => (x, y),
+    }
+}
+
+/// y of moderate size, and x some units away from that whose power is at the end of the finite numbers, the least
+/// normal or subnormal number, or half of this, where it rounds to 0 or not. A quotient by y alone would miss these by
+/// hundreds of units of an f64, so x is corrected by what its power is away.
+fn limited(f: Format, d: &mut Draw) -> (u64, u64) {
+    let [top, bottom, least] = limits(f);
+    let z = d.of(&[top, bottom, least, least - 1.]);
+    let y = f.word(d.of(&[1., -1.]) * d.real(1., 9.));
+    let half = f.value(y) / 2.;
+    let x = (z / 2. / half).exp2();
+    let away = x.powf(half) / (z / 2.).exp2() - 1.;
+    (d.near(f, f.word(x - x * away / half), 2), y)
 }
 
 /// The operands of a power, x no NaN and y finite and whole: x as for other powers, any, or 0, 1 or infinity; y

@@ -64,7 +64,7 @@ macro_rules! width {
         let musl = |x: $word, ()| unsafe { c::$musl($float::from_bits(x)) }.to_bits();
         let port = |x: $word, ()| unsafe { face::$port(x) }.word as $word;
         let ports = |xs: &[$word], _: &[()], out: &mut [$word]| {
-            done(unsafe { face::$ports(xs.as_ptr(), PASS, out.as_mut_ptr(), PASS) })
+            done(unsafe { face::$ports(xs.as_ptr(), PASS, out.as_mut_ptr(), PASS) }, PASS)
         };
         // a root's sign is clear: what the answer before adds is 0, but it must be there first
         let after = |last: $word| last >> ($word::BITS - 1);

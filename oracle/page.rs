@@ -74,9 +74,11 @@ their passes in turn, in one binary, and a ratio is the median of the ratios of 
 - The port has two engines for roots that give the same bits: sqrtf and sqrtd start from a table, sqrtf_digits and
   sqrtd_digits go digit by digit as the original does.
 - A row without `_batch` times one call that is not inlined for each operand. A row with `_batch` times one call
-  of the port beside a Rust loop over the original, or over the C library.
+  of the port beside a Rust loop over the original, or over the C library. In the rows *by 16* and *by 100* the port is
+  called once for every 16 or 100 of the open pairs, and for the 96 that are left.
 - Subnormal operands have from 1 to all of their digits. Open pairs have a normal power; in the subnormal row x or
-  the power is subnormal. Settled pairs are those that a rule decides.
+  the power is subnormal. Settled pairs are those that a rule decides. Mixed pairs are open but for one in 20, at drawn
+  places, which is settled.
 - A target is the most that the port may take of the time of the original without sse.
 - fabs is one instruction on every side; partial roots and the sorting are not in the original.
 

@@ -1,5 +1,6 @@
 //! The parts of the comparison: for each function of the port and each fact, which operands and how many.
 
+use crate::blocks::{self, BLOCK};
 use crate::checks::Tally;
 use crate::draws;
 use crate::operations::{Operation, Width, D, F};
@@ -58,6 +59,7 @@ pub fn parts(scale: Scale) -> Vec<Part> {
             });
         }
         batches(&mut all, scale, w);
+        blocks_of_powers(&mut all, scale, w);
         order_of_roots(&mut all, scale, w);
         roots_by_fours(&mut all, scale, w);
         facts_of_powers(&mut all, scale, w);
@@ -129,6 +131,76 @@ fn batches(all: &mut Vec<Part>, scale: Scale, w: &'static Width) {
             }),
         });
     }
+}
+
+/// Batches of powers, which go in blocks: of each length around those of some blocks, with a special pair in each place
+/// of a block and of one that begins before the end of the one before it, with each number of special pairs in a
+/// block, and of drawn pairs.
+fn blocks_of_powers(all: &mut Vec<Part>, scale: Scale, w: &'static Width) {
+    let (f, [.., batch]) = (w.pow.format, &w.batches);
+    type Each = Box<dyn Fn(usize, &mut Draw, &mut Tally) + Sync>;
+    // The pieces of a turn are functions of their place in it; there are so many turns.
+    let mut part = |label: &str, one_turn: usize, [quick, full]: [usize; 2], each: Each| {
+        let what = format!("{} {label}", batch.name);
+        all.push(Part {
+            name: batch.name,
+            label: label.into(),
+            pieces: (one_turn * if scale.full { full } else { quick }) as u64,
+            run: Box::new(move |piece, t| each(piece as usize % one_turn, &mut Draw::new(scale.seed, &what, piece), t)),
+        });
+    };
+    let clear = move |n: usize, d: &mut Draw| -> Vec<_> { (0..n).map(|_| blocks::clear(f, d)).collect() };
+
+    let lens: Vec<usize> = (0..=4 * BLOCK + 4).chain(BATCH_MOST - 6..=BATCH_MOST).collect();
+    part(
+        "each length of blocks",
+        lens.len(),
+        [8, 512],
+        Box::new(move |i, d, t| t.batch(batch, [lens[i]; 3], d, blocks::mixed)),
+    );
+
+    let specials = blocks::specials(f);
+    part(
+        "special pair in each place",
+        specials.len(),
+        [1, 16],
+        Box::new(move |i, d, t| {
+            for n in [BLOCK, 100] {
+                let others = clear(n, d);
+                for place in 0..n {
+                    let mut pairs = others.clone();
+                    pairs[place] = specials[i];
+                    t.batch_of(batch, [n; 3], &pairs, d)
+                }
+            }
+        }),
+    );
+
+    let handed = blocks::handed(f);
+    part(
+        "each number of special pairs",
+        BLOCK + 1,
+        [16, 1024],
+        Box::new(move |number, d, t| {
+            // A block alone, the last of two that overlap, the second of three.
+            let [before, after] = [(); 2].map(|()| d.within(22, 27) as usize);
+            let three = [(0, before), (BLOCK, number), (2 * BLOCK, after)];
+            for (n, blocks) in [(BLOCK, &[(0, number)][..]), (100, &[(100 - BLOCK, number)]), (3 * BLOCK, &three)] {
+                let mut pairs = clear(n, d);
+                for &(first, number) in blocks {
+                    blocks::put(&mut pairs[first..first + BLOCK], number, &handed, d)
+                }
+                t.batch_of(batch, [n; 3], &pairs, d)
+            }
+        }),
+    );
+
+    part(
+        "drawn",
+        1,
+        [1 << 5, 1 << 14],
+        Box::new(move |_, d, t| (0..16).for_each(|_| t.batch(batch, [BATCH_MOST; 3], d, blocks::mixed))),
+    );
 }
 
 /// Roots keep the order of their operands. All words of an f32, each beside the next, settle it for every pair.

@@ -1,8 +1,8 @@
 //! The rows of the benchmark: for each function and kind of operands, one pass over the same operands by each
-//! side. A single call is one call that is not inlined; a batch is one call of the port beside a Rust loop
-//! over the original or over the C library.
+//! side. A single call is one call that is not inlined; a batch is one call of the port, or some on short batches,
+//! beside a Rust loop over the original or over the C library.
 
-use crate::kinds::{powers, roots, scalings};
+use crate::kinds::{power_batches, powers, roots, scalings};
 use crate::sides::{as_it_stands, face, without_sse};
 use crate::words::{DOUBLE, SINGLE};
 use std::hint::black_box;
@@ -119,7 +119,7 @@ macro_rules! width {
                         whole(&pairs, looped(move |x, ()| as_it_stands::$sqrt(float(x)).to_bits())),
                         whole(&pairs, looped(move |x, ()| unsafe { library(float(x)) }.to_bits())),
                         whole(&pairs, move |xs, _, out| {
-                            done(unsafe { ports(xs.as_ptr(), PASS, out.as_mut_ptr(), PASS) })
+                            done(unsafe { ports(xs.as_ptr(), PASS, out.as_mut_ptr(), PASS) }, PASS)
                         }),
                     ],
                 });
@@ -150,7 +150,8 @@ macro_rules! width {
                     whole(&pairs, looped(move |x, n| as_it_stands::$scalbn(float(x), n).to_bits())),
                     whole(&pairs, looped(move |x, n| unsafe { library(float(x), n) }.to_bits())),
                     whole(&pairs, |xs, ns, out| {
-                        done(unsafe { face::$p_scalbns(xs.as_ptr(), PASS, ns.as_ptr(), PASS, out.as_mut_ptr(), PASS) })
+                        let out = out.as_mut_ptr();
+                        done(unsafe { face::$p_scalbns(xs.as_ptr(), PASS, ns.as_ptr(), PASS, out, PASS) }, PASS)
                     }),
                 ],
             });
@@ -158,8 +159,26 @@ macro_rules! width {
 
         let (without, stands) = black_box((without_sse::$pow as Power, as_it_stands::$pow as Power));
         let library = black_box(c::$c_pow as unsafe extern "C" fn($float, $float) -> $float);
+        let words =
+            |pairs: Vec<(u64, u64)>| -> Vec<_> { pairs.into_iter().map(|(x, y)| (x as $word, y as $word)).collect() };
+        let batches = |operands, pairs: &[($word, $word)], by| Row {
+            call: stringify!($pows),
+            operands,
+            target: target(stringify!($pows), operands),
+            sides: [
+                whole(pairs, looped(move |x, y| without_sse::$pow(float(x), float(y)).to_bits())),
+                whole(pairs, looped(move |x, y| as_it_stands::$pow(float(x), float(y)).to_bits())),
+                whole(pairs, looped(move |x, y| unsafe { library(float(x), float(y)) }.to_bits())),
+                whole(pairs, move |xs, ys, out| {
+                    for ((xs, ys), out) in xs.chunks(by).zip(ys.chunks(by)).zip(out.chunks_mut(by)) {
+                        let n = out.len();
+                        done(unsafe { face::$p_pows(xs.as_ptr(), n, ys.as_ptr(), n, out.as_mut_ptr(), n) }, n)
+                    }
+                }),
+            ],
+        };
         for (operands, pairs) in powers($f) {
-            let pairs: Vec<_> = pairs.iter().map(|&(x, y)| (x as $word, y as $word)).collect();
+            let pairs = words(pairs);
             $rows.push(Row {
                 call: stringify!($pow),
                 operands,
@@ -171,25 +190,16 @@ macro_rules! width {
                     each(&pairs, |x, y| unsafe { face::$p_pow(x, y) }),
                 ],
             });
-            $rows.push(Row {
-                call: stringify!($pows),
-                operands,
-                target: target(stringify!($pows), operands),
-                sides: [
-                    whole(&pairs, looped(move |x, y| without_sse::$pow(float(x), float(y)).to_bits())),
-                    whole(&pairs, looped(move |x, y| as_it_stands::$pow(float(x), float(y)).to_bits())),
-                    whole(&pairs, looped(move |x, y| unsafe { library(float(x), float(y)) }.to_bits())),
-                    whole(&pairs, |xs, ys, out| {
-                        done(unsafe { face::$p_pows(xs.as_ptr(), PASS, ys.as_ptr(), PASS, out.as_mut_ptr(), PASS) })
-                    }),
-                ],
-            });
+            $rows.push(batches(operands, &pairs, PASS));
+        }
+        for ((operands, pairs), by) in power_batches($f) {
+            $rows.push(batches(operands, &words(pairs), by));
         }
     };
 }
 
-pub fn done(answer: face::Batch) {
-    assert!(answer.number == 0 && answer.count == PASS, "a batch was refused");
+pub fn done(answer: face::Batch, count: usize) {
+    assert!(answer.number == 0 && answer.count == count, "a batch was refused");
 }
 
 pub fn rows() -> Vec<Row> {
@@ -210,7 +220,6 @@ pub fn rows() -> Vec<Row> {
 /// The most that the port's time may be of that of the original without sse.
 fn target(call: &str, operands: &str) -> Option<f64> {
     match (call, operands) {
-        (_, "settled") => None,
         ("sqrtf" | "sqrtf_batch", _) => Some(0.22),
         ("sqrtf_digits" | "sqrtf_digits_batch", _) => Some(1.0),
         ("sqrtd", "normal") => Some(0.035),
@@ -218,7 +227,16 @@ fn target(call: &str, operands: &str) -> Option<f64> {
         ("sqrtd" | "sqrtd_batch", _) => Some(0.04),
         ("sqrtd_digits" | "sqrtd_digits_batch", _) => Some(0.6),
         ("scalbnf" | "scalbnf_batch" | "scalbnd" | "scalbnd_batch", _) => Some(1.2),
-        ("powf" | "powf_batch" | "powd" | "powd_batch", _) => Some(1.1),
-        _ => panic!("{call} on {operands} operands: neither a target nor a word that it has none"),
+        ("powf" | "powf_batch" | "powd" | "powd_batch", "settled") => Some(1.15),
+        ("powf" | "powf_batch" | "powd" | "powd_batch", "open, subnormal") => Some(0.4),
+        ("powf" | "powd", "open") => Some(0.78),
+        ("powf_batch", "open") => Some(0.16),
+        ("powf_batch", "mixed") => Some(0.184),
+        ("powf_batch", "open, by 100") => Some(0.25),
+        ("powd_batch", "open") => Some(0.25),
+        ("powd_batch", "mixed") => Some(0.29),
+        ("powd_batch", "open, by 100") => Some(0.4),
+        ("powf_batch" | "powd_batch", "open, by 16") => Some(0.85),
+        _ => panic!("{call} on {operands} operands has no target"),
     }
 }
