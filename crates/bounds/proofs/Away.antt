@@ -1,6 +1,6 @@
 -- log2 where its whole part t is not 0 or its fixed point is 1.5: the sum z_h + z_l + dp_h + t is not near 0, so that t2 is small against t1.
 use mathlib.Core.Path.{◌≡◌}
-use mathlib.Core.Logic.{◌⊎◌, ⊎_elim}
+use mathlib.Core.Logic.{⊎_elim}
 use Prim.Native.Nat.{ℕ, suc, ◌+◌, ◌-◌, ◌*◌, ◌/◌, ◌^◌, ◌≤◌}
 use native.Mathlib.Nat.{le_trans, le_refl}
 use native.Mathlib.Omega.{arith}

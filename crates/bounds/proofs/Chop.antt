@@ -7,7 +7,7 @@ use native.Mathlib.Nat.{div-add-mod', mod-lt, lt-mul-div-succ, div-lt_iff_lt-mul
 use native.Mathlib.Omega.{arith}
 use lib.Dec.{T, leb, lit≤}
 use lib.Pow.{pow-add, pow_pos}
-use lib.Ieee.{Float, fin, Format, binary32, binary64, prec, hid, ones, top, of_bits, to_bits, fits}
+use lib.Ieee.{Float, Format, binary32, binary64, prec, hid, ones, top, of_bits, to_bits}
 use lib.Ieee.Bits.{of_bits-to_bits}
 use lib.Ieee.Scale.{finite}
 use Rattle.bounds.proofs.Signed.{sign, mag, plus, minus, Num}

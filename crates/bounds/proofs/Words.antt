@@ -11,7 +11,7 @@ use native.Mathlib.Omega.{arith}
 use mathlib.Core.Bool.{true, false}
 use lib.Dec.{T, leb, leb→le, le→leb, not_T}
 use lib.Pow.{pow_pos, pow_mono}
-use lib.Ieee.{Float, fin, Format, binary32, binary64, prec, low, hid, ones, top, is_nan, of_bits, to_bits, fits}
+use lib.Ieee.{Float, Format, binary32, binary64, prec, low, hid, ones, top, is_nan, of_bits, to_bits}
 use lib.Ieee.Fits.{two, two-le_pos}
 use lib.Ieee.Bits.{is_true, is_false, nan_bits_is, nan_bits_above, of_bits-to_bits, of_bits-fits}
 use lib.Ieee.Scale.{overflow, finite}

@@ -1,4 +1,6 @@
 // One over a root, from a table of curves.
+#![tactic(auto)]
+
 ghost use Rattle.std.specs.Prelude.{◌≡◌, ◌+◌, ◌-◌, ◌*◌, ◌/◌, ◌%◌, ◌^◌, ◌≤◌, ◌<◌};
 ghost use Rattle.recip.specs.Reciprocal.{Reciprocal};
 

@@ -15,7 +15,7 @@ use lib.Ieee.Digits.{Equals, odd_val, size-le, size_reaches}
 use lib.Ieee.Fits.{two, reach, two-le_pos, kept-lt, nearest-le, round_is, down_pos}
 use lib.Ieee.Nearest.{nearest-ge}
 use lib.Ieee.Order.{drop, kept}
-use Rattle.words.specs.Format.{Format, low, hid, top, infinity, signed, ours}
+use Rattle.words.specs.Format.{low, hid, top, infinity, signed, ours}
 use Rattle.words.specs.Rounding.{rounded}
 use Rattle.words.proofs.Even.{rounded-nearest}
 use Rattle.words.proofs.Digits.{size-gt, size_exact, twice_hid}

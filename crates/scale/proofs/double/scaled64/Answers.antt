@@ -15,8 +15,8 @@ use Rattle.words.specs.Format as Format
 use Rattle.scale.specs.Scale.{scaled}
 use Rattle.scale.proofs.Machine.{held, near-normal}
 use Rattle.scale.proofs.Scaled.{scaled-nan}
-use Rattle.scale.proofs.double.scaled64.Statement.{statement}
-use Rattle.scale.proofs.double.scaled64.Tie as tie
+use Rattle.scale.proofs.double.scaled64.Goals as goal
+use Rattle.scale.proofs.double.scaled64.Goals.{Start, Then-x-le18437736874454810624}
 
 -- the shift drops the sign and doubles the rest
 doubled : (x : ℕ) → x * 2 % 2 ^ 64 ≡ x % 2 ^ 63 * 2
@@ -35,8 +35,8 @@ within : (x : ℕ) → x * 2 % 2 ^ 64 ≤ 0xffe0_0000_0000_0000 → x % 2 ^ 63 �
 within x h = omega (arith, doubled x)
 
 -- under the test the word is no NaN's
-number : (c : tie.Then1) → c.before.args.x % 2 ^ 63 ≤ 0x7ff0_0000_0000_0000
-number c = within c.before.args.x c.if1.true
+number : (c : Then-x-le18437736874454810624) → c.args.x % 2 ^ 63 ≤ 0x7ff0_0000_0000_0000
+number c = within c.args.x c.if-x-le18437736874454810624.true
 
 -- at most is not above
 not-above : (a b : ℤ) → le_z a b ≡ true → lt_z b a ≡ false
@@ -46,23 +46,24 @@ not-above (negsuc m) (pos n) e = refl
 not-above (negsuc m) (negsuc n) e = le-ltb m n (leb-true n m e)
 
 -- n is handed on as the machine holds it
-back : (s : tie.Start) → scaled Format.binary64 s.args.x (held w32 s.args.n) ≡ scaled Format.binary64 s.args.x s.args.n
+back : (s : Start) → scaled Format.binary64 s.args.x (held w32 s.args.n) ≡ scaled Format.binary64 s.args.x s.args.n
 back s = ap (scaled Format.binary64 s.args.x) (to_z-of_z w32 s.args.n s.ranges.n)
 
-near64-requires : tie.Need-near64-requires
-near64-requires c κs =
-    let s = c.before.before.before in
-    let n = held w32 s.args.n in
-    let u = not-above n (pos 1023) c.before.if2.true in
-    let d = not-above (negsuc 1021) n c.if3.true in
-    (number c.before.before, near-normal binary64 w32 s.args.n s.ranges.n u d)
+pub near64-requires : goal.near64-requires
+near64-requires c =
+    let n = held w32 c.args.n in
+    let u = not-above n (pos 1023) c.if-n-le1023.true in
+    let d = not-above (negsuc 1021) n c.if-n-geminus1022.true in
+    (number (goal.at.near64-requires c).Then-x-le18437736874454810624, near-normal binary64 w32 c.args.n c.ranges.n u d)
 
-pub scaled64-spec : {M : Type 1} → statement M
-scaled64-spec =
-    tie.close
-    (tie.spec
-    near64-requires
-    (λ c. c.near64.ensures ∙ back c.before.before.before.before)
-    (λ c κs. number c.before)
-    (λ c. c.number64.ensures ∙ back c.before.before.before)
-    (λ c. scaled-nan Format.binary64 c.before.args.x c.before.args.n (above c.before.args.x c.if1.false)))
+pub returns-then-n-geminus1022 : goal.returns-then-n-geminus1022
+returns-then-n-geminus1022 c = c.near64.ensures ∙ back (goal.at.returns-then-n-geminus1022 c).Start
+
+pub number64-requires : goal.number64-requires
+number64-requires c = number (goal.at.number64-requires c).Then-x-le18437736874454810624
+
+pub returns-then-x-le18437736874454810624 : goal.returns-then-x-le18437736874454810624
+returns-then-x-le18437736874454810624 c = c.number64.ensures ∙ back (goal.at.returns-then-x-le18437736874454810624 c).Start
+
+pub returns : goal.returns
+returns c = scaled-nan Format.binary64 c.args.x c.args.n (above c.args.x c.if-x-le18437736874454810624.false)

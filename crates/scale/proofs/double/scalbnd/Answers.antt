@@ -1,0 +1,13 @@
+-- `scale::double::scalbnd` meets its contract. Assumes nothing.
+use borrow.Author.Rules.{rules}
+use mathlib.Core.Path.{ap, ◌∙◌}
+use mir.Syntax.{w32}
+use mir.ValLaws.{to_z-of_z}
+use Rattle.words.specs.Format.{binary64}
+use Rattle.words.specs.Answers.{answered}
+use Rattle.scale.specs.Scale.{scaled}
+use Rattle.scale.proofs.double.scalbnd.Goals as goal
+
+pub returns : goal.returns
+returns c =
+    c.answer_of.ensures ∙ ap answered (c.scaled64.ensures ∙ ap (scaled binary64 c.args.x) (to_z-of_z w32 c.args.n c.ranges.n))
