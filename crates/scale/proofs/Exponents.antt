@@ -4,13 +4,13 @@ use Prim.Native.Nat.{ℕ, zero, suc, ◌+◌, ◌-◌, ◌*◌, ◌^◌, ◌≤�
 use native.Mathlib.Nat.{le_refl, lt_of_le_of_lt}
 use native.Mathlib.Omega.{arith}
 use mathlib.Core.Bool.{Bool, true, false, not, cond}
-use lib.Dec.{T, leb, ltb, ltb→lt, nltb→le, le→leb}
+use lib.Dec.{T, ltb, ltb→lt, nltb→le, le→leb}
 use lib.Pow.{pow-add}
 use lib.IntN.{ℤ, pos, negsuc, ◌+ℤ◌, ◌-ℤ◌, nat_abs, +ℤ_idr, +ℤ-neg_ℤ_cancel}
 use lib.Signed.{◌≤ℤ◌, ≤ℤ_refl, le_z_yes}
 use mir.Syntax.{Width}
 use mir.Val.{SFits, hbits}
-use lib.Ieee.{Format, binary32, binary64, emax, low, up, down, lt}
+use lib.Ieee.{Format, binary32, binary64, emax, low, up, down}
 use Rattle.scale.specs.Steps.{between}
 
 -- ---- the exponent: held where no unit is lost below, and where every size but zero is an infinity above

@@ -4,7 +4,7 @@ use Prim.Native.Nat.{ℕ, suc, ◌+◌, ◌-◌, ◌*◌, ◌/◌, ◌%◌, ◌^
 use native.Mathlib.Nat.{pow-succ', le_trans, mul-one, mul-pos, mul-le-mul_right, lt_of_mul-lt-mul_right, mul-lt-mul_of_pos_right, mul-add-div_right, mul-add-mod_self_right, le-div_iff_mul-le, div-lt_iff_lt-mul}
 use native.Mathlib.Omega.{arith}
 use mathlib.Core.Bool.{true, false}
-use lib.Dec.{T, ltb, ltb→lt, lit≤}
+use lib.Dec.{T, ltb→lt, lit≤}
 use lib.Pow.{pow-add, pow_pos}
 use lib.IntN.{pos}
 use lib.Ieee.{Float, nan, inf, fin, Format, prec, emax, low, hid, up, down, size, nearest, round, add, sum, lt}

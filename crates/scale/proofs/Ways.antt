@@ -8,7 +8,7 @@ use native.Mathlib.Omega.{arith}
 use mathlib.Core.Bool.{Bool, true, false, not, cond}
 use lib.Dec.{T, ltb, ltb→lt, nltb→le, lit≤}
 use lib.IntN.{ℤ, pos, negsuc, ◌+ℤ◌, ◌-ℤ◌}
-use lib.Signed.{lt_z, ◌≤ℤ◌, lt_z_no, ≤ℤ_refl, le_z_yes}
+use lib.Signed.{lt_z, lt_z_no, ≤ℤ_refl, le_z_yes}
 use lib.Ieee.{Float, Format, binary32, binary64, prec, emax, low, mul, fits}
 use lib.Ieee.Fits.{mul-fits}
 use mir.Syntax.{Width}

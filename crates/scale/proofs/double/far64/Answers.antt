@@ -1,5 +1,4 @@
 -- `scale::double::far64` meets its contract: two steps and the last factor are one rounding. Assumes nothing.
-use borrow.Author.Rules.{rules}
 use mathlib.Core.Path.{sym, subst}
 use lib.Dec.{T}
 use lib.Ieee.{binary64}
@@ -17,4 +16,4 @@ power64-requires c =
 pub returns : goal.returns
 returns c =
     scale-held binary64 w32 c.args.x c.step64-a.result.y c.step64-b.result.y c.power64.result c.args.n c.step64-a.result.n c.step64-b.result.n c.clamp.result
-    (subst T (sym c.well-formed.0.1) tt) c.ranges.n (record { sfits = c.clamp.type_inv }) c.step64-a.ensures c.step64-b.ensures c.clamp.ensures c.power64.ensures
+    (subst T (sym c.well_formed.0.1) tt) c.ranges.n (record { sfits = c.clamp.type_inv }) (c.step64-a.ensures.y_value, c.step64-a.ensures.n_value) (c.step64-b.ensures.y_value, c.step64-b.ensures.n_value) c.clamp.ensures c.power64.ensures

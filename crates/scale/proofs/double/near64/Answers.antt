@@ -17,13 +17,13 @@ factor : (c : After-power64) → mul binary64 (of_bits binary64 c.args.x) c.powe
 factor c = ap (mul binary64 (of_bits binary64 c.args.x)) (c.power64.ensures ∙ ap power (to_z-of_z w32 c.args.n c.ranges.n))
 
 pub float_from_bits-result : goal.float_from_bits-result
-float_from_bits-result c = word_number binary64 c.args.x c.requires.0
+float_from_bits-result c = word_number binary64 c.args.x c.requires.x_bound
 
 pub power64-requires : goal.power64-requires
-power64-requires c = held-normal binary64 w32 c.args.n c.ranges.n c.requires.1
+power64-requires c = held-normal binary64 w32 c.args.n c.ranges.n c.requires.normal
 
 pub float_to_bits-result : goal.float_to_bits-result
-float_to_bits-result c = subst (λ (v : Float). T (not (is_nan v))) (sym (factor (goal.at.float_to_bits-result c).After-power64)) (scaled-number binary64 c.args.x c.args.n c.requires.0)
+float_to_bits-result c = subst (λ (v : Float). T (not (is_nan v))) (sym (factor (goal.at.float_to_bits-result c).After-power64)) (scaled-number binary64 c.args.x c.args.n c.requires.x_bound)
 
 pub returns : goal.returns
 returns c = ap (to_bits binary64) (factor (goal.at.returns c).After-power64) ∙ scaled-is binary64 c.args.x c.args.n c.ranges.x.fits

@@ -1,6 +1,5 @@
 -- `scale::double::number64` meets its contract: unchanged, at a limit, or the word of the kit's product with 2 ^ n. Assumes nothing.
-use borrow.Author.Rules.{rules}
-use borrow.Author.Tests.{eqb-true}
+use borrow.Author.Tests.{ne_eqb}
 use mathlib.Core.Path.{◌≡◌, sym, ap, ◌∙◌, subst}
 use mathlib.Core.Logic.{inl, inr}
 use mathlib.Core.Bool.{not}
@@ -24,19 +23,19 @@ back : (s : Start) → scaled Format.binary64 s.args.x (held w32 s.args.n) ≡ s
 back s = ap (scaled Format.binary64 s.args.x) (to_z-of_z w32 s.args.n s.ranges.n)
 
 beyond : (c : Joined-then-n-gt2098) → Beyond binary64 (held w32 c.args.n)
-beyond c = elim c.then-n-gt2098.branch [ inl a ↦ inl a.taken | inr a ↦ inr a.1.taken ]
+beyond c = elim c.then-n-gt2098.branch [ goal.then-n-gt2098-via-then-n-gt2098 w ↦ inl w.if-n-gt2098.true | goal.then-n-gt2098-via-else-n-gt2098+then-n-ltminus2098 w ↦ inr w.if-n-ltminus2098.true ]
 
 pub returns-then-ix-eq0 : goal.returns-then-ix-eq0
-returns-then-ix-eq0 c = scaled-kept Format.binary64 c.args.x _ c.args.n (lit≤ tt) c.ranges.x.fits (and_mask c.args.x 63) (elim c.then-ix-eq0.branch [ inl a ↦ inl a.taken | inr a ↦ inr (eqb-true _ _ a.1.taken) ])
+returns-then-ix-eq0 c = scaled-kept Format.binary64 c.args.x _ c.args.n (lit≤ tt) c.ranges.x.fits (and_mask c.args.x 63) (elim c.then-ix-eq0.branch [ goal.then-ix-eq0-via-then-ix-eq0 w ↦ inl w.if-ix-eq0.true | goal.then-ix-eq0-via-else-ix-eq0+then-ix-eq9218868437227405312 w ↦ inr w.if-ix-eq9218868437227405312.true ])
 
 pub returns-then-n-gt0 : goal.returns-then-n-gt0
 returns-then-n-gt0 c = sign-before 63 c.args.x 0x7ff0_0000_0000_0000 c.ranges.x.fits (lit≤ tt)
-    ∙ limit-up binary64 c.args.x _ c.ranges.x.fits (and_mask c.args.x 63) c.requires c.if-ix-eq0.false c.if-ix-eq9218868437227405312.false _ (beyond (goal.at.returns-then-n-gt0 c).Joined-then-n-gt2098) c.if-n-gt0.true
+    ∙ limit-up binary64 c.args.x _ c.ranges.x.fits (and_mask c.args.x 63) c.requires c.if-ix-eq0.false (ne_eqb _ _ c.if-ix-eq9218868437227405312.false) _ (beyond (goal.at.returns-then-n-gt0 c).Joined-then-n-gt2098) c.if-n-gt0.true
     ∙ back (goal.at.returns-then-n-gt0 c).Start
 
 pub returns-then-n-gt2098 : goal.returns-then-n-gt2098
 returns-then-n-gt2098 c = sign-alone 63 c.args.x c.ranges.x.fits
-    ∙ limit-down binary64 c.args.x _ c.ranges.x.fits (and_mask c.args.x 63) c.requires c.if-ix-eq0.false c.if-ix-eq9218868437227405312.false _ (beyond (goal.at.returns-then-n-gt2098 c).Joined-then-n-gt2098) c.if-n-gt0.false
+    ∙ limit-down binary64 c.args.x _ c.ranges.x.fits (and_mask c.args.x 63) c.requires c.if-ix-eq0.false (ne_eqb _ _ c.if-ix-eq9218868437227405312.false) _ (beyond (goal.at.returns-then-n-gt2098 c).Joined-then-n-gt2098) c.if-n-gt0.false
     ∙ back (goal.at.returns-then-n-gt2098 c).Start
 
 pub float_from_bits-x : goal.float_from_bits-x

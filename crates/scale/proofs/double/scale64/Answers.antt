@@ -1,5 +1,4 @@
 -- `scale::double::scale64` meets its contract: between the ends one multiplication does, and past them the far way. Assumes nothing.
-use borrow.Author.Rules.{rules}
 use mathlib.Core.Path.{◌≡◌, ap, ◌∙◌}
 use lib.IntN.{ℤ}
 use lib.Ieee.{Float, binary64, mul}

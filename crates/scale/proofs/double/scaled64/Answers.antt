@@ -54,7 +54,7 @@ near64-requires c =
     let n = held w32 c.args.n in
     let u = not-above n (pos 1023) c.if-n-le1023.true in
     let d = not-above (negsuc 1021) n c.if-n-geminus1022.true in
-    (number (goal.at.near64-requires c).Then-x-le18437736874454810624, near-normal binary64 w32 c.args.n c.ranges.n u d)
+    record { x_bound = number (goal.at.near64-requires c).Then-x-le18437736874454810624; normal = near-normal binary64 w32 c.args.n c.ranges.n u d }
 
 pub returns-then-n-geminus1022 : goal.returns-then-n-geminus1022
 returns-then-n-geminus1022 c = c.near64.ensures ∙ back (goal.at.returns-then-n-geminus1022 c).Start

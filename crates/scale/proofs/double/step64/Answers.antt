@@ -14,7 +14,7 @@ overflow_sub-result c = sub-fits binary64 w32 c.args.x c.args.n c.ranges.n c.if-
 
 pub returns-then-n-gt1023 : goal.returns-then-n-gt1023
 unfolding of_bits
-returns-then-n-gt1023 c = step-up binary64 w32 c.args.x c.args.n c.ranges.n _ refl c.if-n-gt1023.true
+returns-then-n-gt1023 c = let h = step-up binary64 w32 c.args.x c.args.n c.ranges.n _ refl c.if-n-gt1023.true in record { y_value = h.0; n_value = h.1 }
 
 pub float_from_bits-x1p_1022 : goal.float_from_bits-x1p_1022
 unfolding nan_bits
@@ -29,7 +29,7 @@ overflow_add-result c = add-fits binary64 w32 c.args.x c.args.n c.ranges.n c.if-
 
 pub returns-then-n-ltminus1022 : goal.returns-then-n-ltminus1022
 unfolding of_bits mul round
-returns-then-n-ltminus1022 c = step_down binary64 w32 c.args.x c.args.n c.ranges.n _ refl c.if-n-gt1023.false c.if-n-ltminus1022.true
+returns-then-n-ltminus1022 c = let h = step_down binary64 w32 c.args.x c.args.n c.ranges.n _ refl c.if-n-gt1023.false c.if-n-ltminus1022.true in record { y_value = h.0; n_value = h.1 }
 
 pub returns : goal.returns
-returns c = step-none binary64 w32 c.args.x c.args.n c.ranges.n c.if-n-gt1023.false c.if-n-ltminus1022.false
+returns c = let h = step-none binary64 w32 c.args.x c.args.n c.ranges.n c.if-n-gt1023.false c.if-n-ltminus1022.false in record { y_value = h.0; n_value = h.1 }

@@ -1,5 +1,4 @@
 -- `scale::single::far32` meets its contract: two steps and the last factor are one rounding. Assumes nothing.
-use borrow.Author.Rules.{rules}
 use mathlib.Core.Path.{sym, subst}
 use lib.Dec.{T}
 use lib.Ieee.{binary32}
@@ -17,4 +16,4 @@ power32-requires c =
 pub returns : goal.returns
 returns c =
     scale-held binary32 w32 c.args.x c.step32-a.result.y c.step32-b.result.y c.power32.result c.args.n c.step32-a.result.n c.step32-b.result.n c.clamp.result
-    (subst T (sym c.well-formed.0.1) tt) c.ranges.n (record { sfits = c.clamp.type_inv }) c.step32-a.ensures c.step32-b.ensures c.clamp.ensures c.power32.ensures
+    (subst T (sym c.well_formed.0.1) tt) c.ranges.n (record { sfits = c.clamp.type_inv }) (c.step32-a.ensures.y_value, c.step32-a.ensures.n_value) (c.step32-b.ensures.y_value, c.step32-b.ensures.n_value) c.clamp.ensures c.power32.ensures

@@ -17,13 +17,13 @@ factor : (c : After-power32) → mul binary32 (of_bits binary32 c.args.x) c.powe
 factor c = ap (mul binary32 (of_bits binary32 c.args.x)) (c.power32.ensures ∙ ap power (to_z-of_z w32 c.args.n c.ranges.n))
 
 pub float_from_bits-result : goal.float_from_bits-result
-float_from_bits-result c = word_number binary32 c.args.x c.requires.0
+float_from_bits-result c = word_number binary32 c.args.x c.requires.x_bound
 
 pub power32-requires : goal.power32-requires
-power32-requires c = held-normal binary32 w32 c.args.n c.ranges.n c.requires.1
+power32-requires c = held-normal binary32 w32 c.args.n c.ranges.n c.requires.normal
 
 pub float_to_bits-result : goal.float_to_bits-result
-float_to_bits-result c = subst (λ (v : Float). T (not (is_nan v))) (sym (factor (goal.at.float_to_bits-result c).After-power32)) (scaled-number binary32 c.args.x c.args.n c.requires.0)
+float_to_bits-result c = subst (λ (v : Float). T (not (is_nan v))) (sym (factor (goal.at.float_to_bits-result c).After-power32)) (scaled-number binary32 c.args.x c.args.n c.requires.x_bound)
 
 pub returns : goal.returns
 returns c = ap (to_bits binary32) (factor (goal.at.returns c).After-power32) ∙ scaled-is binary32 c.args.x c.args.n c.ranges.x.fits

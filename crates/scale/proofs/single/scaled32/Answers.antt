@@ -1,6 +1,4 @@
 -- `scale::single::scaled32` meets its contract: a normal word by one product with a normal 2 ^ n, and all else the rare way. Assumes nothing.
-use borrow.Author.Rules.{rules}
-use borrow.Author.Tests.{leb-false}
 use mathlib.Core.Path.{◌≡◌, ap, ◌∙◌, subst}
 use Prim.Native.Nat.{ℕ, ◌+◌, ◌-◌, ◌/◌, ◌%◌, ◌^◌, ◌≤◌, ◌<◌}
 use native.Mathlib.Nat.{le_of_lt}
@@ -21,7 +19,7 @@ back s = ap (scaled Format.binary32 s.args.x) (to_z-of_z w32 s.args.n s.ranges.n
 
 -- past the tests of the word its size is finite, and its field has 8 digits
 size : (c : Else-ix-ge2139095040) → bit_and c.args.x (2 ^ 31 - 1) < 0x7f80_0000
-size c = leb-false 0x7f80_0000 (bit_and c.args.x (2 ^ 31 - 1)) c.if-ix-ge2139095040.false
+size c = c.if-ix-ge2139095040.false
 
 number : (c : Else-ix-ge2139095040) → c.args.x % 2 ^ 31 ≤ 0x7f80_0000
 number c = subst (λ (z : ℕ). z ≤ 0x7f80_0000) (and_mask c.args.x 31) (le_of_lt (size c))
@@ -48,7 +46,7 @@ pub returns-then-n-ix-lt1 : goal.returns-then-n-ix-lt1
 returns-then-n-ix-lt1 c = c.rare32-then-n-ix-lt1.ensures ∙ back (goal.at.returns-then-n-ix-lt1 c).Start
 
 pub near32-requires : goal.near32-requires
-near32-requires c = (number (goal.at.near32-requires c).Else-ix-ge2139095040, near-normal binary32 w32 c.args.n c.ranges.n c.if-n-gt127.false c.if-n-ltminus126.false)
+near32-requires c = record { x_bound = number (goal.at.near32-requires c).Else-ix-ge2139095040; normal = near-normal binary32 w32 c.args.n c.ranges.n c.if-n-gt127.false c.if-n-ltminus126.false }
 
 pub returns : goal.returns
 returns c = c.near32.ensures ∙ back (goal.at.returns c).Start

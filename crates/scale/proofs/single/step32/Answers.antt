@@ -14,7 +14,7 @@ overflow_sub-result c = sub-fits binary32 w32 c.args.x c.args.n c.ranges.n c.if-
 
 pub returns-then-n-gt127 : goal.returns-then-n-gt127
 unfolding of_bits
-returns-then-n-gt127 c = step-up binary32 w32 c.args.x c.args.n c.ranges.n _ refl c.if-n-gt127.true
+returns-then-n-gt127 c = let h = step-up binary32 w32 c.args.x c.args.n c.ranges.n _ refl c.if-n-gt127.true in record { y_value = h.0; n_value = h.1 }
 
 pub float_from_bits-x1p_126 : goal.float_from_bits-x1p_126
 unfolding nan_bits
@@ -29,7 +29,7 @@ overflow_add-result c = add-fits binary32 w32 c.args.x c.args.n c.ranges.n c.if-
 
 pub returns-then-n-ltminus126 : goal.returns-then-n-ltminus126
 unfolding of_bits mul round
-returns-then-n-ltminus126 c = step_down binary32 w32 c.args.x c.args.n c.ranges.n _ refl c.if-n-gt127.false c.if-n-ltminus126.true
+returns-then-n-ltminus126 c = let h = step_down binary32 w32 c.args.x c.args.n c.ranges.n _ refl c.if-n-gt127.false c.if-n-ltminus126.true in record { y_value = h.0; n_value = h.1 }
 
 pub returns : goal.returns
-returns c = step-none binary32 w32 c.args.x c.args.n c.ranges.n c.if-n-gt127.false c.if-n-ltminus126.false
+returns c = let h = step-none binary32 w32 c.args.x c.args.n c.ranges.n c.if-n-gt127.false c.if-n-ltminus126.false in record { y_value = h.0; n_value = h.1 }

@@ -1,5 +1,4 @@
 -- `scale::single::tiny32` meets its contract: by the sum where it has fewer units than the least normal number, else by the whole float. Assumes nothing.
-use borrow.Author.Rules.{rules}
 use mathlib.Core.Path.{refl}
 use native.Mathlib.Nat.{le_trans, le_of_lt}
 use lib.Dec.{le→leb, lit≤, lit<}
