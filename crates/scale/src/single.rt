@@ -94,6 +94,9 @@ fn tiny32(m: u32, n: i32) -> u32
     f32::to_bits(scale32(units, k - 149))
 }
 
+// More than this many places up every number is an infinity.
+const MOST_UP: i32 = 277;
+
 // The word of x times 2^n for every x and n. Only a NaN's word gives the NaN; zeros and infinities are
 // unchanged; any other number is an infinity more than 277 places up, and a zero more than 277 down.
 fn rare32(x: u32, n: i32) -> u32
@@ -107,7 +110,7 @@ fn rare32(x: u32, n: i32) -> u32
         return x;
     }
     let sign = x & 0x80000000;
-    if n > 277 || n < -277 {
+    if n > MOST_UP || n < -277 {
         if n > 0 {
             return sign | 0x7f800000;
         }

@@ -17,7 +17,7 @@ use Rattle.scale.proofs.Limits.{Beyond, limit-up, limit-down, below-infinity}
 use Rattle.scale.proofs.Scaled.{scaled-nan, scaled-kept, scaled-signed, sign-alone, sign-before, digits-with-leading}
 use Rattle.scale.proofs.Tiny.{digits, by_digits}
 use Rattle.scale.proofs.single.rare32.Goals as goal
-use Rattle.scale.proofs.single.rare32.Goals.{Else-ix-eq2139095040, Else-ix-lt8388608, Joined-then-n-gt277, Start}
+use Rattle.scale.proofs.single.rare32.Goals.{Else-ix-eq2139095040, Else-ix-lt8388608, Joined-then-n-gt-MOST_UP, Start}
 
 -- n is handed on as the machine holds it
 back : (s : Start) → scaled Format.binary32 s.args.x (held w32 s.args.n) ≡ scaled Format.binary32 s.args.x s.args.n
@@ -30,8 +30,8 @@ number x h = subst (λ (z : ℕ). z ≤ 0x7f80_0000) (and_mask x 31) h
 finite : (c : Else-ix-eq2139095040) → c.args.x % 2 ^ 31 < 0x7f80_0000
 finite c = below-infinity binary32 c.args.x _ c.ranges.x.fits (and_mask c.args.x 31) (number c.args.x c.if-ix-gt2139095040.false) c.if-ix-eq0.false (ne_eqb _ _ c.if-ix-eq2139095040.false)
 
-beyond : (c : Joined-then-n-gt277) → Beyond binary32 (held w32 c.args.n)
-beyond c = elim c.then-n-gt277.branch [ goal.then-n-gt277-via-then-n-gt277 w ↦ inl w.if-n-gt277.true | goal.then-n-gt277-via-else-n-gt277+then-n-ltminus277 w ↦ inr w.if-n-ltminus277.true ]
+beyond : (c : Joined-then-n-gt-MOST_UP) → Beyond binary32 (held w32 c.args.n)
+beyond c = elim c.then-n-gt-MOST_UP.branch [ goal.then-n-gt-MOST_UP-via-then-n-gt-MOST_UP w ↦ inl w.if-n-gt-MOST_UP.true | goal.then-n-gt-MOST_UP-via-else-n-gt-MOST_UP+then-n-ltminus277 w ↦ inr w.if-n-ltminus277.true ]
 
 -- the sign before the size, scaled
 signed : (s : Start) → s.args.x % 2 ^ 31 < 0x7f80_0000 → (r : ℕ) → r ≡ scaled Format.binary32 (s.args.x % 2 ^ 31) s.args.n → bit_or (bit_and s.args.x 0x8000_0000) r ≡ scaled Format.binary32 s.args.x s.args.n
@@ -67,13 +67,13 @@ returns-then-ix-eq0 c = scaled-kept Format.binary32 c.args.x _ c.args.n (lit≤ 
 
 pub returns-then-n-gt0 : goal.returns-then-n-gt0
 returns-then-n-gt0 c = sign-before 31 c.args.x 0x7f80_0000 c.ranges.x.fits (lit≤ tt)
-    ∙ limit-up binary32 c.args.x _ c.ranges.x.fits (and_mask c.args.x 31) (number c.args.x c.if-ix-gt2139095040.false) c.if-ix-eq0.false (ne_eqb _ _ c.if-ix-eq2139095040.false) _ (beyond (goal.at.returns-then-n-gt0 c).Joined-then-n-gt277) c.if-n-gt0.true
+    ∙ limit-up binary32 c.args.x _ c.ranges.x.fits (and_mask c.args.x 31) (number c.args.x c.if-ix-gt2139095040.false) c.if-ix-eq0.false (ne_eqb _ _ c.if-ix-eq2139095040.false) _ (beyond (goal.at.returns-then-n-gt0 c).Joined-then-n-gt-MOST_UP) c.if-n-gt0.true
     ∙ back (goal.at.returns-then-n-gt0 c).Start
 
-pub returns-then-n-gt277 : goal.returns-then-n-gt277
-returns-then-n-gt277 c = sign-alone 31 c.args.x c.ranges.x.fits
-    ∙ limit-down binary32 c.args.x _ c.ranges.x.fits (and_mask c.args.x 31) (number c.args.x c.if-ix-gt2139095040.false) c.if-ix-eq0.false (ne_eqb _ _ c.if-ix-eq2139095040.false) _ (beyond (goal.at.returns-then-n-gt277 c).Joined-then-n-gt277) c.if-n-gt0.false
-    ∙ back (goal.at.returns-then-n-gt277 c).Start
+pub returns-then-n-gt-MOST_UP : goal.returns-then-n-gt-MOST_UP
+returns-then-n-gt-MOST_UP c = sign-alone 31 c.args.x c.ranges.x.fits
+    ∙ limit-down binary32 c.args.x _ c.ranges.x.fits (and_mask c.args.x 31) (number c.args.x c.if-ix-gt2139095040.false) c.if-ix-eq0.false (ne_eqb _ _ c.if-ix-eq2139095040.false) _ (beyond (goal.at.returns-then-n-gt-MOST_UP c).Joined-then-n-gt-MOST_UP) c.if-n-gt0.false
+    ∙ back (goal.at.returns-then-n-gt-MOST_UP c).Start
 
 pub tiny32-requires : goal.tiny32-requires
 tiny32-requires c = lt_trans c.if-ix-lt8388608.true (lit< tt)
@@ -83,7 +83,7 @@ returns-then-ix-lt8388608 c =
     signed (goal.at.returns-then-ix-lt8388608 c).Start (finite (goal.at.returns-then-ix-lt8388608 c).Else-ix-eq2139095040) c.tiny32.result (c.tiny32.ensures ∙ (λ i. scaled Format.binary32 (and_mask c.args.x 31 i) (to_z-of_z w32 c.args.n c.ranges.n i)))
 
 pub overflow_add-n : goal.overflow_add-n
-overflow_add-n c = sum_fits w32 c.args.n (bit_and c.args.x (2 ^ 31 - 1) / 2 ^ 23 - 1) 277 c.ranges.n c.if-n-gt277.false (room (goal.at.overflow_add-n c).Else-ix-lt8388608)
+overflow_add-n c = sum_fits w32 c.args.n (bit_and c.args.x (2 ^ 31 - 1) / 2 ^ 23 - 1) 277 c.ranges.n c.if-n-gt-MOST_UP.false (room (goal.at.overflow_add-n c).Else-ix-lt8388608)
 
 pub tiny32-requires-2 : goal.tiny32-requires-2
 tiny32-requires-2 c = subst (λ (z : ℕ). z < 2 ^ 24) (sym (digits-with-leading 23 (bit_and c.args.x (2 ^ 31 - 1)))) (digits binary32 (bit_and c.args.x (2 ^ 31 - 1)) (bit_and c.args.x (2 ^ 31 - 1) / 2 ^ 23 - 1) (below (goal.at.tiny32-requires-2 c).Else-ix-lt8388608) (field (goal.at.tiny32-requires-2 c).Else-ix-lt8388608))
@@ -92,6 +92,6 @@ pub returns : goal.returns
 returns c =
     signed (goal.at.returns c).Start (finite (goal.at.returns c).Else-ix-eq2139095040) c.tiny32-2.result
     (c.tiny32-2.ensures
-    ∙ (λ i. scaled Format.binary32 (digits-with-leading 23 (bit_and c.args.x (2 ^ 31 - 1)) i) (sum-held w32 c.args.n (bit_and c.args.x (2 ^ 31 - 1) / 2 ^ 23 - 1) 277 c.ranges.n c.if-n-gt277.false (room (goal.at.returns c).Else-ix-lt8388608) i))
+    ∙ (λ i. scaled Format.binary32 (digits-with-leading 23 (bit_and c.args.x (2 ^ 31 - 1)) i) (sum-held w32 c.args.n (bit_and c.args.x (2 ^ 31 - 1) / 2 ^ 23 - 1) 277 c.ranges.n c.if-n-gt-MOST_UP.false (room (goal.at.returns c).Else-ix-lt8388608) i))
     ∙ by_digits binary32 (bit_and c.args.x (2 ^ 31 - 1)) (bit_and c.args.x (2 ^ 31 - 1) / 2 ^ 23 - 1) (below (goal.at.returns c).Else-ix-lt8388608) (field (goal.at.returns c).Else-ix-lt8388608) c.args.n
     ∙ ap (λ (z : ℕ). scaled Format.binary32 z c.args.n) (and_mask c.args.x 31))
