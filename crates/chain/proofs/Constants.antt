@@ -58,9 +58,9 @@ all f (b ∷ l) h i =
     go h k zero = h
     go h k (suc j) = k j
 
-infixl 70 ◌up-to◌
-abbrev pub ◌up-to◌ : Float → ℕ → Bound
-x up_to_lem c = record { float = x; most = c }
+infixl 70 ◌up_to◌
+abbrev pub ◌up_to◌ : Float → ℕ → Bound
+x up_to c = record { float = x; most = c }
 
 module _ (w : Width) where
   abbrev f : Format
@@ -72,9 +72,9 @@ module _ (w : Width) where
   -- ---- the logarithm
   abbrev pub in-log : List Bound
   in-log =
-      con w L1 up_to_lem 644300000 ∷ con w L2 up_to_lem 460200000 ∷ con w L3 up_to_lem 357950000 ∷ con w L4 up_to_lem 292900000 ∷ con w L5 up_to_lem
-      247700000 ∷ con w L6 up_to_lem 222300000
-      ∷ con w CP up_to_lem 1032850000 ∷ con w CP-H up_to_lem 1032850000 ∷ con w CP-L up_to_lem 130000 ∷ at (one f + hid f + hid f / 2) up_to_lem 3221225472 ∷ []
+      con w L1 up_to 644300000 ∷ con w L2 up_to 460200000 ∷ con w L3 up_to 357950000 ∷ con w L4 up_to 292900000 ∷ con w L5 up_to
+      247700000 ∷ con w L6 up_to 222300000
+      ∷ con w CP up_to 1032850000 ∷ con w CP-H up_to 1032850000 ∷ con w CP-L up_to 130000 ∷ at (one f + hid f + hid f / 2) up_to 3221225472 ∷ []
 
   pub log-by : T (tested f in-log) → Least f (U f) 1032700000 (con w CP-H) → Least f (U f) 3221225472 (at (one f + hid f + hid f / 2))
       → LogConsts f (con w L1) (con w L2) (con w L3) (con w L4) (con w L5) (con w L6) (con w CP) (con w CP-H) (con w CP-L) (at (one f + hid f + hid f / 2))
@@ -98,8 +98,8 @@ module _ (w : Width) where
   -- ---- the logarithm near 1
   abbrev pub in_near : List Bound
   in_near =
-      con w IVLN2-H up_to_lem 1549100000 ∷ con w IVLN2-L up_to_lem 8000 ∷ con w IVLN2 up_to_lem 1549100000 ∷ con w THIRD up_to_lem 358000000
-      ∷ at (one f - hid f) up_to_lem 536870912 ∷ at (one f - 2 * hid f) up_to_lem 268435456 ∷ []
+      con w IVLN2-H up_to 1549100000 ∷ con w IVLN2-L up_to 8000 ∷ con w IVLN2 up_to 1549100000 ∷ con w THIRD up_to 358000000
+      ∷ at (one f - hid f) up_to 536870912 ∷ at (one f - 2 * hid f) up_to 268435456 ∷ []
 
   pub near_by : T (tested f in_near) → Least f (U f) 1549000000 (con w IVLN2-H)
       → CloseConsts f (con w IVLN2-H) (con w IVLN2-L) (con w IVLN2) (con w THIRD) (at (one f - hid f)) (at (one f - 2 * hid f))
@@ -119,8 +119,8 @@ module _ (w : Width) where
   -- ---- the exponential
   abbrev pub in-exp : List Bound
   in-exp =
-      con w P1 up_to_lem 179000000 ∷ con w P2 up_to_lem 2983000 ∷ con w P3 up_to_lem 72000 ∷ con w P4 up_to_lem 1800 ∷ con w P5 up_to_lem 50
-      ∷ con w LG2 up_to_lem 744300000 ∷ con w LG2-H up_to_lem 744300000 ∷ con w LG2-L up_to_lem 1600 ∷ at (one f) up_to_lem 2 ^ 30 ∷ at (one f + hid f) up_to_lem 2 ^ 31 ∷ []
+      con w P1 up_to 179000000 ∷ con w P2 up_to 2983000 ∷ con w P3 up_to 72000 ∷ con w P4 up_to 1800 ∷ con w P5 up_to 50
+      ∷ con w LG2 up_to 744300000 ∷ con w LG2-H up_to 744300000 ∷ con w LG2-L up_to 1600 ∷ at (one f) up_to 2 ^ 30 ∷ at (one f + hid f) up_to 2 ^ 31 ∷ []
 
   pub exp-by : T (tested f in-exp) → (plus f (at (one f)) ≡ U f) × (minus f (at (one f)) ≡ 0)
       → (plus f (at (one f + hid f)) ≡ 2 * U f) × (minus f (at (one f + hid f)) ≡ 0)
