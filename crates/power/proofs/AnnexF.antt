@@ -6,7 +6,7 @@ use mathlib.Core.Bool.{Bool, true, false, ◌||◌, cond}
 use mathlib.Core.Logic.{inl}
 use native.Mathlib.Omega.{arith}
 use lib.Dec.{T, eqb, lit≤}
-use lib.Ieee.{Format, binary32, binary64, size}
+use lib.Ieee.{Format, binary32, binary64}
 use borrow.Author.Tests.{lt-ltb, le-ltb, eq-eqb, ne_eqb, eqb-false, leb-true}
 use Rattle.words.specs.Format.{units, one, infinity, quiet, top, magnitude, negative, signed, ours}
 use Rattle.power.specs.Numbers.{whole, odd}

@@ -7,7 +7,6 @@ use Rattle.power.specs.declared.answer.Fate.{Fate}
 use Rattle.power.specs.declared.answer.Fate.TheVariants.{Over, Under, Within}
 use Rattle.power.specs.declared.answer.Sorted.{Sorted}
 use Rattle.power.specs.declared.answer.Sorted.TheVariants.{Settled, Open}
-use Rattle.words.specs.Format.{negative}
 use Rattle.power.specs.Sorting.{sorted, sorted5, sorted6, sorted7, Told, told, told_settled, told_open}
 use Rattle.power.specs.Width.{Width, Two}
 use Rattle.power.specs.Chain.{fate_of, exp2_of, over_of, under_of, finish_of, open_of}

@@ -5,7 +5,7 @@ use mathlib.Core.Bool.{Bool, true, false, not, ◌&&◌, cond}
 use native.Mathlib.Nat.{zero-add}
 use native.Mathlib.Omega.{arith}
 use lib.Dec.{eqb}
-use lib.Ieee.{Format, binary32, binary64, of_bits, to_bits, mul, div, size}
+use lib.Ieee.{Format, binary32, binary64, of_bits, to_bits, mul, div}
 use borrow.Author.Tests.{le-ltb, ne_eqb, eqb-true}
 use Rattle.words.specs.Format.{units, one, infinity, top, magnitude, negative, is_nan_word, signed, ours}
 use Rattle.root.specs.Root.{root_word}
