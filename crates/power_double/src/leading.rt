@@ -7,7 +7,7 @@ ghost use Rattle.power_double.specs.Parts.{two};
 
 use super::halves::with_set_low_word;
 
-#[derive(Drop)]
+#[derive(Clone, Copy)]
 pub struct Pair {
     pub hi: f64,
     pub lo: f64,

@@ -5,7 +5,7 @@ ghost use Rattle.power.specs.NoNan.{Number};
 ghost use Rattle.power.specs.Power.{single};
 ghost use Rattle.power_single.specs.Parts.{two};
 
-#[derive(Drop)]
+#[derive(Clone, Copy)]
 pub struct Pair {
     pub hi: f32,
     pub lo: f32,

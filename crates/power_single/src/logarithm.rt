@@ -15,7 +15,7 @@ use super::table::{
 use words::bridge::of_word32;
 
 // s, and its parts s_h and s_l.
-#[derive(Drop)]
+#[derive(Clone, Copy)]
 pub struct Ratio {
     pub s: f32,
     pub hi: f32,
