@@ -58,23 +58,11 @@ module _ (c : After-shift_up-s) where
     (omega arith, j),
   )
 
-pub shift_up-s-requires : goal.shift_up-s-requires
-shift_up-s-requires c = rw (and_mask c.args.x 52) (nonzero c.args.x c.requires.0 c.if-field-eq0.true, omega arith, omega arith)
-
 pub overflow_shl-m : goal.overflow_shl-m
 overflow_shl-m c = omega (arith, few (goal.at.overflow_shl-m c).After-shift_up-s)
 
 pub overflow_sub-n : goal.overflow_sub-n
 overflow_sub-n c = omega (arith, few (goal.at.overflow_sub-n c).After-shift_up-s)
-
-pub overflow_sub-result : goal.overflow_sub-result
-overflow_sub-result c = omega (arith, and_mask (1022 - s (goal.at.overflow_sub-result c).After-shift_up-s) 1)
-
-pub overflow_add-result : goal.overflow_add-result
-overflow_add-result c = rw (digits (goal.at.overflow_add-result c).After-shift_up-s) (record { fits = omega arith })
-
-pub overflow_add-result-else-field-eq0 : goal.overflow_add-result-else-field-eq0
-overflow_add-result-else-field-eq0 c = record { fits = omega (arith, and_mask c.args.x 52) }
 
 pub returns-then-field-eq0 : goal.returns-then-field-eq0
 returns-then-field-eq0 c =
