@@ -1,5 +1,5 @@
 -- `power_single::block::ended` meets its contract: the sum goes into the exponent's field, and the test says whether it stays a normal number's. Assumes nothing.
-use Rattle.std.proofs.Common.{◌≡◌, ℕ, ◌+◌, ◌-◌, ◌*◌, ◌%◌, ◌^◌, ◌<◌, ◌≤◌, ◌∙◌, arith, rules}
+use Rattle.std.proofs.Common.{◌≡◌, ℕ, ◌+◌, ◌-◌, ◌*◌, ◌%◌, ◌^◌, ◌<◌, ◌≤◌, ◌∙◌, arith}
 use lib.Ieee.{binary32, to_bits}
 use Rattle.power.specs.Chain.{exponential_of}
 use Rattle.power.specs.Power.{single}
@@ -19,12 +19,12 @@ set e = omega arith
 
 pub returns-then-wrapping_add_u32-lt2130706432 : goal.returns-then-wrapping_add_u32-lt2130706432
 returns-then-wrapping_add_u32-lt2130706432 c =
-    let n = normal c.wrapping_add_u32-w.result c.wrapping_add_u32.result c.wrapping_add_u32-w.type_inv c.wrapping_add_u32.ensures c.if-wrapping_add_u32-lt2130706432.true in
+    let n = normal c.wrapping_add_u32-w.result c.wrapping_add_u32.result c.wrapping_add_u32-w.type_inv c.wrapping_add_u32.ensures.value c.if-wrapping_add_u32-lt2130706432.true in
     record {
       bit = c.requires;
       clean = λ e. (
         e,
-        c.wrapping_add_u32-w.ensures ∙ simp (c.to_word32.ensures, c.exponential.ensures) (sum (to_bits binary32 (exponential_of single (two c.args.q))) c.args.e),
+        c.wrapping_add_u32-w.ensures.value ∙ simp (c.to_word32.ensures, c.exponential.ensures) (sum (to_bits binary32 (exponential_of single (two c.args.q))) c.args.e),
         n.0,
         n.1,
       );

@@ -1,8 +1,8 @@
 -- `power_single::block::singly` meets its contract: one loop over a block, by power/proofs/Filled.antt. Assumes nothing.
-use Rattle.std.proofs.Common.{◌-◌, sym, ◌∙◌, arith, rules}
+use Rattle.std.proofs.Common.{◌-◌}
 use Rattle.power.specs.Power.{pow32}
 use Rattle.power.specs.Stages.{word_at}
-use Rattle.power.proofs.Filled.{Filled, none, one_more, all}
+use Rattle.power.proofs.Filled.{Filled}
 use Rattle.power_single.proofs.block.singly.Given as goal
 
 abbrev pub invariant-loop-i : goal.invariant-loop-i

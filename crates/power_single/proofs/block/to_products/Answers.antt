@@ -1,5 +1,5 @@
 -- `power_single::block::to_products` meets its contract: the stages of the logarithm and the product, one after the other; no NaN arises, since the pairs are clear. Assumes nothing.
-use Rattle.std.proofs.Common.{ℕ, ◌<◌, sym, ◌∙◌, subst, rules}
+use Rattle.std.proofs.Common.{ℕ, ◌<◌, sym, ◌∙◌, subst}
 use lib.Ieee.{binary32, of_bits}
 use Rattle.power.specs.Power.{single}
 use Rattle.power.specs.Width.{Two}
@@ -12,48 +12,27 @@ use Rattle.chain.proofs.ClearPair.{far-number, ratio-number, logarithm-number}
 use Rattle.chain.proofs.Widths.{known32}
 use Rattle.power_single.proofs.block.to_products.Goals as goal
 
-pub ratios-requires : goal.ratios-requires
-ratios-requires c =
-    let p = c.requires in
-    record {
-      full = (p.0.0, p.0.2, p.0.3, p.0.4, p.0.6);
-      each = λ j k. let a = clear-is single _ _ (p.1 j k) in
-          (a.normal, a.positive, ratio-number single known32 room32 a short32);
-    }
+pub ratios-requires-clause-each : goal.ratios-requires-clause-each
+ratios-requires-clause-each c j k =
+    let a = clear-is single _ _ (c.requires.each j k) in
+    (a.normal, a.positive, ratio-number single known32 room32 a short32)
 
-pub logarithms-requires : goal.logarithms-requires
-logarithms-requires c =
-    let at_pre = r in
-    let p = at_pre.requires in
-    record {
-      full = (c.ss-1.given ∙ p.0.2, c.rs-1.given ∙ p.0.5, c.hs-1.given ∙ p.0.3, c.ls-1.given ∙ p.0.4);
-      each = λ j k. let e = logarithm-is single _ (c.ratios.ensures.each_3.0 j k) (c.serieses.ensures j k) in
-          subst (λ (t : Two). Number t.lo) (sym e) (logarithm-number single known32 room32 (clear-is single _ _ (p.1 j k)) short32);
-    }
+pub logarithms-requires-clause-each : goal.logarithms-requires-clause-each
+logarithms-requires-clause-each c j k =
+    let e = logarithm-is single _ (c.ratios.ensures.each_3 j k) (c.serieses.ensures j k) in
+    subst (λ (t : Two). Number t.lo) (sym e) (logarithm-number single known32 room32 (clear-is single _ _ (c.requires.each j k)) short32)
 
-pub products-requires : goal.products-requires
-products-requires c =
-    let at_pre = r in
-    let p = at_pre.requires in
-    record {
-      full = (
-        p.0.1,
-        c.ws-1.given ∙ p.0.0,
-        c.ts-1.given ∙ p.0.6,
-        c.hs-2-1.given ∙ c.hs-1.given ∙ p.0.3,
-        c.ls-2-1.given ∙ c.ls-1.given ∙ p.0.4,
-      );
-      each = λ j k. let a = clear-is single _ _ (p.1 j k) in
-          let e = c.logarithms.ensures j k ∙ logarithm-is single _ (c.ratios.ensures.each_3.0 j k) (c.serieses.ensures j k) in
-          let i = c.ratios.ensures.each_2 j k in (
-            y-finite single room32 a,
-            subst (λ (n : ℕ). n < 2) (sym i) (reduced-small single _),
-            subst (λ (t : Two). Number t.lo) (sym (log2-is single _ e i (c.ratios.ensures.each_3.1 j k))) (far-number single known32 room32 a),
-          );
-    }
+pub products-requires-clause-each : goal.products-requires-clause-each
+products-requires-clause-each c j k =
+    let a = clear-is single _ _ (c.requires.each j k) in
+    let e = c.logarithms.ensures j k ∙ logarithm-is single _ (c.ratios.ensures.each_3 j k) (c.serieses.ensures j k) in
+    let i = c.ratios.ensures.each_2 j k in (
+      y-finite single room32 a,
+      subst (λ (n : ℕ). n < 2) (sym i) (reduced-small single _),
+      subst (λ (t : Two). Number t.lo) (sym (log2-is single _ e i (c.ratios.ensures.each_4 j k))) (far-number single known32 room32 a),
+    )
 
 pub returns : goal.returns
-returns c =
-    let at-args = r in
-    λ j k. let e = c.logarithms.ensures j k ∙ logarithm-is single _ (c.ratios.ensures.each_3.0 j k) (c.serieses.ensures j k) in
-    c.products.ensures j k ∙ product_is single (of_bits binary32 (word_at at-args.args.es.now j)) _ e (c.ratios.ensures.each_2 j k) (c.ratios.ensures.each_3.1 j k)
+returns c j k =
+    let e = c.logarithms.ensures j k ∙ logarithm-is single _ (c.ratios.ensures.each_3 j k) (c.serieses.ensures j k) in
+    c.products.ensures j k ∙ product_is single (of_bits binary32 (word_at c.args.es.now j)) _ e (c.ratios.ensures.each_2 j k) (c.ratios.ensures.each_4 j k)

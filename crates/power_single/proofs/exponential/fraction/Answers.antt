@@ -1,5 +1,5 @@
 -- `power_single::exponential::fraction` meets its contract: the sum is the definition's where it is sure, and elsewhere the digits are, by power/proofs/Stages.antt. Assumes nothing.
-use Rattle.std.proofs.Common.{◌≡◌, ℕ, ◌/◌, ◌^◌, true, false, sym, div-one, arith, rules, le-ltb, lt-ltb, le-leb}
+use Rattle.std.proofs.Common.{◌≡◌, ℕ, ◌/◌, ◌^◌, true, false, sym, div-one, arith, le-ltb, lt-ltb, le-leb}
 use borrow.Author.Tests.{lt-leb}
 use Rattle.power.specs.Power.{single}
 use Rattle.power.proofs.Nan.{is_number}
@@ -28,15 +28,15 @@ pub returns-then-j-ge2147483648 : goal.returns-then-j-ge2147483648
 returns-then-j-ge2147483648 c =
     let n = c.nearest_to-n in
     let a = c.args in
-    let r = taken-off single a.h a.z (all _) (lt-ltb _ _ (rw size32 at c.if-j-gt1056964608.true)) (nearest n.result) n.ensures.0 true (le-leb _ _ c.if-j-ge2147483648.true) in
+    let r = taken-off single a.h a.z (all _) (lt-ltb _ _ (rw size32 at c.if-j-gt1056964608.true)) (nearest n.result) n.ensures.result_value true (le-leb _ _ c.if-j-ge2147483648.true) in
     (r.0, r.1, omega arith)
 
 pub returns-else-j-ge2147483648 : goal.returns-else-j-ge2147483648
 returns-else-j-ge2147483648 c =
     let n = c.nearest_to-n in
     let a = c.args in
-    let r = taken-off single a.h a.z (all _) (lt-ltb _ _ (rw size32 at c.if-j-gt1056964608.true)) (nearest n.result) n.ensures.0 false (lt-leb _ _ c.if-j-ge2147483648.false) in
-    (r.0, r.1, omega (arith, n.ensures.1))
+    let r = taken-off single a.h a.z (all _) (lt-ltb _ _ (rw size32 at c.if-j-gt1056964608.true)) (nearest n.result) n.ensures.result_value false (lt-leb _ _ c.if-j-ge2147483648.false) in
+    (r.0, r.1, omega (arith, n.ensures.size_bound))
 
 pub returns : goal.returns
 returns c =

@@ -1,5 +1,5 @@
 -- `power_single::exponential::nearest_to` meets its contract: `known` bounds the shifts and differences, and `nearest-is` is the result, by power/proofs/NearestWhole.antt. Assumes nothing.
-use Rattle.std.proofs.Common.{◌≡◌, ℕ, ◌*◌, ◌%◌, ◌^◌, ◌<◌, ◌≤◌, not, T, sym, refl, ap, mul-one, arith, lit≤, rules}
+use Rattle.std.proofs.Common.{◌≡◌, ℕ, ◌*◌, ◌%◌, ◌^◌, ◌<◌, ◌≤◌, not, T, sym, refl, ap, mul-one, arith, lit≤}
 use mathlib.Core.Path.{subst⁻¹}
 use lib.Ieee.{binary32, nan_bits, of_bits}
 use Rattle.power.proofs.HighWord.{high32}

@@ -1,5 +1,5 @@
 -- `power_single::exponential::raised` meets its contract: each return is one way of the raised exponent, by power/proofs/HighWord.antt. Assumes nothing.
-use Rattle.std.proofs.Common.{ℕ, ◌+◌, ◌/◌, ◌^◌, ◌<◌, T, sym, ap, ◌∙◌, subst, arith, rules}
+use Rattle.std.proofs.Common.{ℕ, ◌+◌, ◌/◌, ◌^◌, ◌<◌, T, sym, ap, ◌∙◌, subst, arith}
 use lib.Ieee.{binary32, fits, to_bits}
 use lib.Ieee.Bits.{to_bits-lt}
 use Rattle.power.proofs.Exponent.{unbiased-back}
@@ -16,7 +16,7 @@ float_to_bits-w c = is_number c.args.z c.requires.1
 
 pub returns-then-wrapping_add_u32-lt2139095040 : goal.returns-then-wrapping_add_u32-lt2139095040
 returns-then-wrapping_add_u32-lt2139095040 c =
-    coded-normal high32 c.args.z (z-fits (goal.at.returns-then-wrapping_add_u32-lt2139095040 c).Start) c.args.e c.wrapping_add_u32-j.ensures c.wrapping_add_u32.ensures c.if-wrapping_add_u32-lt2139095040.true c.requires.2
+    coded-normal high32 c.args.z (z-fits (goal.at.returns-then-wrapping_add_u32-lt2139095040 c).Start) c.args.e c.wrapping_add_u32-j.ensures.value c.wrapping_add_u32.ensures.value c.if-wrapping_add_u32-lt2139095040.true c.requires.2
 
 pub overflow_add-w : goal.overflow_add-w
 overflow_add-w c =
@@ -31,12 +31,12 @@ lowered-requires c = lost-some binary32 (to_bits binary32 c.args.z) _ _ c.if-w-s
 pub returns-then-w-s : goal.returns-then-w-s
 returns-then-w-s c =
     c.lowered.ensures
-    ∙ coded-lowered high32 c.args.z (z-fits (goal.at.returns-then-w-s c).Start) c.args.e c.wrapping_add_u32-j.ensures c.wrapping_add_u32.ensures c.if-wrapping_add_u32-lt2139095040.false c.requires.0
-    c.wrapping_sub_u32-s.result 32 (omega arith) c.wrapping_sub_u32-s.ensures c.if-w-s.true
+    ∙ coded-lowered high32 c.args.z (z-fits (goal.at.returns-then-w-s c).Start) c.args.e c.wrapping_add_u32-j.ensures.value c.wrapping_add_u32.ensures.value c.if-wrapping_add_u32-lt2139095040.false c.requires.0
+    c.wrapping_sub_u32-s.result 32 (omega arith) c.wrapping_sub_u32-s.ensures.value c.if-w-s.true
 
 pub returns : goal.returns
 returns c =
     c.to_word32.ensures
     ∙ ap (to_bits binary32) (c.scale32.ensures
-    ∙ coded-scaled high32 c.args.z (z-fits (goal.at.returns c).Start) c.args.e c.wrapping_add_u32-j.ensures c.wrapping_add_u32.ensures c.if-wrapping_add_u32-lt2139095040.false
+    ∙ coded-scaled high32 c.args.z (z-fits (goal.at.returns c).Start) c.args.e c.wrapping_add_u32-j.ensures.value c.wrapping_add_u32.ensures.value c.if-wrapping_add_u32-lt2139095040.false
     (rw c.unbiased.ensures (unbiased-back 512 c.args.e (omega arith) (omega (arith, c.requires.0)))))

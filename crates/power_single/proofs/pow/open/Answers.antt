@@ -1,5 +1,5 @@
 -- `power_single::pow::open` meets its contract: each way is the definition's. Assumes nothing.
-use Rattle.std.proofs.Common.{◌≡◌, ℕ, ◌%◌, ◌^◌, true, false, ltb, inl, inr, ⊎_elim, mod-lt, div-one, arith, rules, le-ltb, lt-ltb, le-leb}
+use Rattle.std.proofs.Common.{◌≡◌, ℕ, ◌%◌, ◌^◌, true, false, ltb, inl, inr, mod-lt, div-one, arith, le-ltb, lt-ltb, le-leb}
 use borrow.Author.Tests.{lt-leb}
 use lib.Ieee.{binary32, of_bits}
 use Rattle.power.specs.Chain.{log_of, open_of}
@@ -25,10 +25,7 @@ huge c = let y = c.args.y in lt-ltb 0x4d000000 (y % 2 ^ 31) (omega (arith, size3
 reaches : (c : Joined-iy-gt1291845632) → Reaches single (c.args.x % 2 ^ 31) (c.args.y % 2 ^ 31)
 reaches c =
     let y = c.args.y in
-    ⊎_elim
-    (λ w. inr (none y, le-ltb _ _ (rw size32 at w.1.left), le-ltb _ _ (rw size32 at w.2.left)))
-    (λ w. inl (le-ltb 0x4d000000 (y % 2 ^ 31) (omega (arith, size32 y, w.left))))
-    c.if-iy-gt1291845632.branch
+    elim c.if-iy-gt1291845632.branch [ goal.then-iy-gt1291845632+else-ix-lt1065353208+else-ix-gt1065353223 w ↦ inr (none y, le-ltb _ _ (rw size32 at w.if-ix-lt1065353208.false), le-ltb _ _ (rw size32 at w.if-ix-gt1065353223.false)) | goal.else-iy-gt1291845632 w ↦ inl (le-ltb 0x4d000000 (y % 2 ^ 31) (omega (arith, size32 y, w.if-iy-gt1291845632.false))) ]
 
 -- the numbers on the way there
 way : (c : Joined-iy-gt1291845632) → let c = c.args in
@@ -111,17 +108,17 @@ finish-requires c = simp (c.product.ensures, c.log_of.ensures, size32) (way (goa
 pub returns : goal.returns
 unfolding open_of
 returns c =
-    ⊎_elim
-    (λ w. simp (
-      c.finish.ensures,
-      c.product.ensures,
-      c.log_of.ensures,
-      size32,
-      div-one,
-      lt-ltb _ _ (rw size32 at w.0.taken),
-      none c.args.y,
-      le-ltb _ _ (rw size32 at w.1.left),
-      le-ltb _ _ (rw size32 at w.2.left),
-    ))
-    (λ w. simp (c.finish.ensures, c.product.ensures, c.log_of.ensures, size32, div-one, le-ltb _ _ (rw size32 at w.left)))
-    c.if-iy-gt1291845632.branch
+    elim c.if-iy-gt1291845632.branch [
+      | goal.then-iy-gt1291845632+else-ix-lt1065353208+else-ix-gt1065353223 w ↦ simp (
+        c.finish.ensures,
+        c.product.ensures,
+        c.log_of.ensures,
+        size32,
+        div-one,
+        lt-ltb _ _ (rw size32 at w.if-iy-gt1291845632.true),
+        none c.args.y,
+        le-ltb _ _ (rw size32 at w.if-ix-lt1065353208.false),
+        le-ltb _ _ (rw size32 at w.if-ix-gt1065353223.false),
+      )
+      | goal.else-iy-gt1291845632 w ↦ simp (c.finish.ensures, c.product.ensures, c.log_of.ensures, size32, div-one, le-ltb _ _ (rw size32 at w.if-iy-gt1291845632.false))
+    ]

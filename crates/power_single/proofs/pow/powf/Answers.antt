@@ -1,5 +1,5 @@
 -- `power_single::pow::powf` meets its contract: a settled pair is the sorting's, and an open one the chain's. Assumes nothing.
-use Rattle.std.proofs.Common.{sym, ap, ◌∙◌, rules}
+use Rattle.std.proofs.Common.{sym, ap, ◌∙◌}
 use lib.Ieee.{binary32}
 use Rattle.power.specs.Power.{single}
 use Rattle.power.proofs.Cases.{chosen, pow-chosen}

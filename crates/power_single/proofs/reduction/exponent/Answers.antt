@@ -1,5 +1,5 @@
 -- `power_single::reduction::exponent` meets its contract: the field without its bias is a float. Assumes nothing.
-use Rattle.std.proofs.Common.{T, ℤ, ap, arith, rules}
+use Rattle.std.proofs.Common.{T, ℤ, ap, arith}
 use mathlib.Core.Path.{subst⁻¹}
 use lib.Ieee.{binary32, in_float, of_int}
 use Rattle.power.specs.Chain.{exponent_of}
