@@ -1,0 +1,20 @@
+-- `power_double::block::halves` meets its contract: one loop over a block, in place: what is read at i is as it was, by power/proofs/Filled.antt. Assumes nothing.
+use Rattle.std.proofs.Common.{◌-◌, sym, ap, ◌∙◌, subst, arith}
+use lib.Ieee.{nan, add, binary64}
+use Rattle.power.specs.Power.{double}
+use Rattle.power.specs.Width.{Two}
+use Rattle.power.specs.Chain.{parts_of}
+use Rattle.power.specs.NoNan.{Number}
+use Rattle.power.specs.Stages.{two_at}
+use Rattle.power.proofs.Filled.{Filled, none, one_more, all}
+use Rattle.power.proofs.Blocks.{two_is}
+use Rattle.power_double.proofs.block.halves.Goals as goal
+
+pub loop-i-preserved : goal.loop-i-preserved
+loop-i-preserved c =
+    let l = c.loop-i in
+    let i = l.i in
+    let h = l.invariant.0.rest i (omega arith) in
+    let o = l.invariant.1.rest i (omega arith) in
+    let e = c.parts-q.ensures ∙ (λ n. parts_of double (record { hi = h n; lo = o n })) in
+    (one_more l.invariant.0 (omega arith) (ap (λ (t : Two). t.hi) e), one_more l.invariant.1 (omega arith) (ap (λ (t : Two). t.lo) e))

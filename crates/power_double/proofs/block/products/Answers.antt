@@ -1,0 +1,22 @@
+-- `power_double::block::products` meets its contract: one loop over a block, in place: what is read at i is as it was, by power/proofs/Filled.antt. Assumes nothing.
+use Rattle.std.proofs.Common.{◌+◌, ◌-◌, get_or, sym, ap, ◌∙◌, subst, arith}
+use lib.Ieee.{nan, binary64, of_bits}
+use Rattle.power.specs.Power.{double}
+use Rattle.power.specs.Width.{Two}
+use Rattle.power.specs.Chain.{log2_of, con}
+use Rattle.power.specs.Places.{DP-H, DP-L}
+use Rattle.power.specs.NoNan.{Number}
+use Rattle.power.specs.Stages.{times_of, word_at, float_at, two_at}
+use Rattle.power.proofs.Filled.{Filled, none, one_more, all}
+use Rattle.power.proofs.Blocks.{two_is}
+use Rattle.power_double.proofs.block.products.Goals as goal
+
+pub loop-i-preserved : goal.loop-i-preserved
+loop-i-preserved c =
+    let l = c.loop-i in
+    let i = l.i in
+    let a = c.args in
+    let h = l.invariant.0.rest i (omega arith) in
+    let o = l.invariant.1.rest i (omega arith) in
+    let e = c.product_of-p.ensures ∙ (λ n. times_of double (of_bits binary64 (get_or a.es.now i 0)) (record { hi = h n; lo = o n }) (get_or a.ws.now i 0) (get_or a.ts.now i nan)) in
+    (one_more l.invariant.0 (omega arith) (ap (λ (t : Two). t.hi) e), one_more l.invariant.1 (omega arith) (ap (λ (t : Two). t.lo) e))

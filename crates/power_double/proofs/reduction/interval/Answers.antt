@@ -1,0 +1,12 @@
+-- `power_double::reduction::interval` meets its contract: the three intervals by sums alone, by power/proofs/Intervals.antt. Assumes nothing.
+use Rattle.std.proofs.Common.{arith, rules}
+use Rattle.power.specs.Power.{double}
+use Rattle.power.proofs.Intervals.{spaced64, interval-by-sums}
+use Rattle.power_double.proofs.reduction.interval.Goals as goal
+
+pub returns : goal.returns
+returns c =
+    record {
+      result_value = interval-by-sums double spaced64 c.args.ix c.args.e c.requires.0;
+      ix_bound = omega arith;
+    }
