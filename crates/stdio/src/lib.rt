@@ -8,9 +8,10 @@ ghost use Rattle.std.specs.Counts.{IsPrefixLen};
 ghost use Rattle.std.specs.Prelude.{◌<◌, ◌≤◌, length, IfOk};
 ghost use Rattle.std.specs.Io.{ReadsAtMost};
 
+use std::fmt::InlineText;
+use std::hint::spin_loop;
 use std::io;
 use std::io::{ErrorKind, Print, Read};
-use std::thread::yield_now;
 
 // What one read brought: `count` bytes, none at the end of the input and none when it failed.
 #[derive(Drop)]
@@ -113,14 +114,21 @@ fn write_once(rt: &HostRuntime, buf: &[u8]) -> io::Result<usize>
 fn again(e: &io::Error) -> bool {
     let kind = e.kind();
     if kind == ErrorKind::WouldBlock {
-        yield_now();
+        spin_loop();
         return true;
     }
     kind == ErrorKind::Interrupted
 }
 
-// Writes a line to standard error: what failed, as the caller names it, a colon and the error's text.
+// Writes a line to standard error: what failed, as the caller names it, a colon and the error's text. After the
+// system's own text std puts the error's number, which the line leaves out.
 fn fail(rt: &HostRuntime, what: &[u8], e: &io::Error) {
+    let told = InlineText::<256>::of(e);
+    let told = told.as_str();
+    let text = match told.split_once(" (os error ") {
+        Some((text, _)) => text,
+        None => told,
+    };
     let _ = rt.stderr().write_all(what);
-    let _ = eprintln!(rt; ": {e}");
+    let _ = eprintln!(rt; ": {text}");
 }

@@ -1,14 +1,14 @@
 // What the program writes of a list.
 use lists::tally::Tally;
+use std::fmt::InlineText;
 
 fn text(rt: &HostRuntime, bytes: &[u8]) -> bool {
     stdio::write(rt, bytes, b"testfloat: cannot write")
 }
 
 fn decimal(rt: &HostRuntime, n: u64) -> bool {
-    let mut digits = [0u8; 20];
-    let k = io::decimal(n, &mut digits);
-    text(rt, &digits[..k])
+    let digits = InlineText::<20>::of(n);
+    text(rt, digits.as_str().as_bytes())
 }
 
 fn count(rt: &HostRuntime, name: &[u8], n: u64) -> bool {
