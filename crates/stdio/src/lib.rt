@@ -58,7 +58,8 @@ pub fn write(rt: &HostRuntime, buf: &[u8], cannot: &[u8]) -> bool {
     true
 }
 
-// Reads until buf is full or the input ends, and returns how many bytes it put at the start of buf.
+// Reads until buf is full or the input ends, and returns how many bytes it put at the start of buf. After an error
+// some of buf may be overwritten.
 pub fn read_full(rt: &HostRuntime, buf: &mut [u8]) -> io::Result<usize>
     ensures { ReadsAtMost result buf.new }
 {
