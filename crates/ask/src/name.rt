@@ -2,7 +2,7 @@
 ghost use Rattle.std.specs.Prelude.{◌≡◌};
 ghost use Rattle.ask.specs.Names.{same_bytes};
 
-#[derive(Drop)]
+#[derive(Clone, Copy)]
 pub enum Name {
     Fabsf,
     Fabsd,

@@ -1,77 +1,78 @@
 // What is written: an answer in one line, or one line that says what is wrong and how to ask.
-use libc::STDOUT_FILENO;
 use power::answer::Sorted;
 use root::partial::PartialRoot;
+use std::io;
+use std::io::Print;
 use words::answer::Answer;
 use words::refusal::{DONE, NOT_POSITIVE};
 
-pub fn text(bytes: &[u8]) {
-    io::write_all(STDOUT_FILENO, bytes);
+pub fn text(rt: &HostRuntime, bytes: &[u8]) -> io::Result<()> {
+    rt.write_all(bytes)
 }
 
 // A word of so many hexadecimal digits, in a line.
-pub fn word(w: u64, digits: usize) {
-    io::print_hex(STDOUT_FILENO, w, digits);
-    text(b"\n");
+pub fn word(rt: &HostRuntime, w: u64, digits: usize) -> io::Result<()> {
+    println!(rt; "{w:0digits$x}")
 }
 
-fn decimal(n: u64) {
-    io::print_decimal(STDOUT_FILENO, n);
+fn decimal(rt: &HostRuntime, n: u64) -> io::Result<()> {
+    print!(rt; "{n}")
 }
 
 // A refusal number, and what it means.
-fn refusal(number: u32) {
-    text(b"refused, ");
-    decimal(number as u64);
+fn refusal(rt: &HostRuntime, number: u32) -> io::Result<()> {
+    text(rt, b"refused, ")?;
+    decimal(rt, number as u64)?;
     if number == NOT_POSITIVE {
-        text(b": the operand is zero, negative, infinite or NaN\n");
+        text(rt, b": the operand is zero, negative, infinite or NaN\n")
     } else {
-        text(b": more rounds than the root has digits\n");
+        text(rt, b": more rounds than the root has digits\n")
     }
 }
 
-pub fn answer(r: Answer, digits: usize) {
+pub fn answer(rt: &HostRuntime, r: Answer, digits: usize) -> io::Result<()> {
     if r.number == DONE {
-        word(r.word, digits);
+        word(rt, r.word, digits)
     } else {
-        refusal(r.number);
+        refusal(rt, r.number)
     }
 }
 
-pub fn partial(r: PartialRoot) {
+pub fn partial(rt: &HostRuntime, r: PartialRoot) -> io::Result<()> {
     if r.number == DONE {
-        text(b"digits ");
-        decimal(r.digits);
-        text(b", left-over ");
-        decimal(r.left);
-        text(b", rounds ");
-        decimal(r.rounds as u64);
-        text(b"\n");
+        text(rt, b"digits ")?;
+        decimal(rt, r.digits)?;
+        text(rt, b", left-over ")?;
+        decimal(rt, r.left)?;
+        text(rt, b", rounds ")?;
+        decimal(rt, r.rounds as u64)?;
+        text(rt, b"\n")
     } else {
-        refusal(r.number);
+        refusal(rt, r.number)
     }
 }
 
-pub fn sorting(s: Sorted, digits: usize) {
+pub fn sorting(rt: &HostRuntime, s: Sorted, digits: usize) -> io::Result<()> {
     match s {
         Sorted::Settled(w) => {
-            text(b"settled ");
-            word(w, digits);
+            text(rt, b"settled ")?;
+            word(rt, w, digits)
         }
         Sorted::Open(negative) => {
             if negative {
-                text(b"open, negative\n");
+                text(rt, b"open, negative\n")
             } else {
-                text(b"open, positive\n");
+                text(rt, b"open, positive\n")
             }
         }
     }
 }
 
 // How to ask, after a line that says what is wrong.
-pub fn usage(wrong: &[u8]) {
-    text(wrong);
+pub fn usage(rt: &HostRuntime, wrong: &[u8]) -> io::Result<()> {
+    text(rt, wrong)?;
     text(
+        rt,
         b"usage: ask NAME OPERAND..
   ask fabsf X               ask fabsd X
   ask scalbnf X N           ask scalbnd X N
@@ -82,5 +83,5 @@ pub fn usage(wrong: &[u8]) {
 X and Y are words: 8 hexadecimal digits for f, 16 for d, in either case, with or without 0x.
 N is a decimal i32, K a decimal u32.
 ",
-    );
+    )
 }

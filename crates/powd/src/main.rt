@@ -1,24 +1,29 @@
 // Each f64 word raised to the power of the f64 word after it, from standard input to standard
 // output: records of 16 bytes in, answers of 8 bytes out, little-endian. A cut-off last record
 // gives no output.
-use libc::{STDIN_FILENO, STDOUT_FILENO};
+#![tactic(auto)]
+
+use std::io;
+use std::io::Print;
 
 // One piece of 1024 records: read until it is full or the input ends, so that only the last piece
 // can be cut off, however the input is delivered. Returns whether to go on: a short piece is the
-// last, and a failed write ends the program.
-fn piece() -> bool {
+// last, and a failed read or write ends the program with its error.
+fn piece(rt: &HostRuntime) -> io::Result<bool> {
     let mut input = [0u8; 16384];
-    let n = io::read_full(STDIN_FILENO, &mut input);
+    let n = stdio::read_full(rt, &mut input)?;
     let mut out = [0u8; 8192];
     let m = stream::double::powd_bytes(&input[..n], &mut out);
-    io::write_all(STDOUT_FILENO, &out[..m]) && n == 16384
+    rt.write_all(&out[..m])?;
+    Ok(n == 16384)
 }
 
 // A proved loop has to end, and nothing says that the input does: no input has this many pieces.
-fn main() {
+fn main(rt: HostRuntime) -> io::Result<()> {
     for _ in 0..u64::MAX {
-        if !piece() {
-            return;
+        if !piece(&rt)? {
+            return Ok(());
         }
     }
+    Ok(())
 }

@@ -1,5 +1,6 @@
 // The operands of the vectors: words at the edges of every rule of document 01, its hand-checked
 // values among them, and exponents at the edges of scaling.
+#![tactic(auto)]
 
 // f32 words.
 pub const SINGLES: [u32; 32] = [

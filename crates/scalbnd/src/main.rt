@@ -1,23 +1,28 @@
 // Each f64 word times 2 to the power of the i32 after it, from standard input to standard output: records of
 // 12 bytes in, answers of 8 bytes out, little-endian. A cut-off last record gives no output.
-use libc::{STDIN_FILENO, STDOUT_FILENO};
+#![tactic(auto)]
+
+use std::io;
+use std::io::Print;
 
 // One piece of 1024 records: read until it is full or the input ends, so that only the last piece
 // can be cut off, however the input is delivered. Returns whether to go on: a short piece is the
-// last, and a failed write ends the program.
-fn piece() -> bool {
+// last, and a failed read or write ends the program with its error.
+fn piece(rt: &HostRuntime) -> io::Result<bool> {
     let mut input = [0u8; 12288];
-    let n = io::read_full(STDIN_FILENO, &mut input);
+    let n = stdio::read_full(rt, &mut input)?;
     let mut out = [0u8; 8192];
     let m = stream::double::scalbnd_bytes(&input[..n], &mut out);
-    io::write_all(STDOUT_FILENO, &out[..m]) && n == 12288
+    rt.write_all(&out[..m])?;
+    Ok(n == 12288)
 }
 
 // A proved loop has to end, and nothing says that the input does: no input has this many pieces.
-fn main() {
+fn main(rt: HostRuntime) -> io::Result<()> {
     for _ in 0..u64::MAX {
-        if !piece() {
-            return;
+        if !piece(&rt)? {
+            return Ok(());
         }
     }
+    Ok(())
 }

@@ -1,41 +1,42 @@
 // The roots of the words of `samples` once more, by bisection over whole numbers and with nothing
 // of the crate `root`: the file stdout holds them to the same lines as `vectors`.
+#![tactic(auto)]
+
 mod bisect;
 mod fields;
 
-use libc::STDOUT_FILENO;
 use samples::{DOUBLES, SINGLES};
+use std::io;
 
-fn line(x: u64, r: u64, width: usize) {
-    io::print_hex(STDOUT_FILENO, x, width);
-    io::write_all(STDOUT_FILENO, b" ");
-    io::print_hex(STDOUT_FILENO, r, width);
-    io::write_all(STDOUT_FILENO, b"\n");
+fn line(rt: &HostRuntime, x: u64, r: u64, width: usize) -> io::Result<()> {
+    println!(rt; "{x:0width$x} {r:0width$x}")
 }
 
-fn single(x: u32) {
-    line(x as u64, fields::single(x as u64), 8);
+fn single(rt: &HostRuntime, x: u32) -> io::Result<()> {
+    line(rt, x as u64, fields::single(x as u64), 8)
 }
 
-fn double(x: u64) {
-    line(x, fields::double(x), 16);
+fn double(rt: &HostRuntime, x: u64) -> io::Result<()> {
+    line(rt, x, fields::double(x), 16)
 }
 
-fn singles() {
+fn singles(rt: &HostRuntime) -> io::Result<()> {
     for i in 0..32 {
-        single(SINGLES[i]);
+        single(rt, SINGLES[i])?;
     }
+    Ok(())
 }
 
-fn doubles() {
+fn doubles(rt: &HostRuntime) -> io::Result<()> {
     for i in 0..32 {
-        double(DOUBLES[i]);
+        double(rt, DOUBLES[i])?;
     }
+    Ok(())
 }
 
-fn main() {
-    io::write_all(STDOUT_FILENO, b"sqrtf\n");
-    singles();
-    io::write_all(STDOUT_FILENO, b"sqrtd\n");
-    doubles();
+fn main(rt: HostRuntime) -> io::Result<()> {
+    println!(rt; "sqrtf")?;
+    singles(&rt)?;
+    println!(rt; "sqrtd")?;
+    doubles(&rt)
 }

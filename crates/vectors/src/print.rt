@@ -1,18 +1,19 @@
 // Words and numbers in a line of text.
-use libc::STDOUT_FILENO;
+use std::io;
+use std::io::Print;
 
-pub fn text(bytes: &[u8]) {
-    io::write_all(STDOUT_FILENO, bytes);
+pub fn text(rt: &HostRuntime, bytes: &[u8]) -> io::Result<()> {
+    rt.write_all(bytes)
 }
 
-pub fn single(x: u32) {
-    io::print_hex(STDOUT_FILENO, x as u64, 8);
+pub fn single(rt: &HostRuntime, x: u32) -> io::Result<()> {
+    print!(rt; "{x:08x}")
 }
 
-pub fn double(x: u64) {
-    io::print_hex(STDOUT_FILENO, x, 16);
+pub fn double(rt: &HostRuntime, x: u64) -> io::Result<()> {
+    print!(rt; "{x:016x}")
 }
 
-pub fn decimal(n: u64) {
-    io::print_decimal(STDOUT_FILENO, n);
+pub fn decimal(rt: &HostRuntime, n: u64) -> io::Result<()> {
+    print!(rt; "{n}")
 }

@@ -3,41 +3,44 @@ use super::print;
 use samples::{DOUBLES, EXPONENTS, SINGLES};
 use scale::double::scaled64;
 use scale::single::scaled32;
+use std::io;
 
-fn single(x: u32, n: i32) {
-    print::text(b" ");
-    print::single(scaled32(x, n));
+fn single(rt: &HostRuntime, x: u32, n: i32) -> io::Result<()> {
+    print::text(rt, b" ")?;
+    print::single(rt, scaled32(x, n))
 }
 
-fn double(x: u64, n: i32) {
-    print::text(b" ");
-    print::double(scaled64(x, n));
+fn double(rt: &HostRuntime, x: u64, n: i32) -> io::Result<()> {
+    print::text(rt, b" ")?;
+    print::double(rt, scaled64(x, n))
 }
 
-fn of_single(x: u32) {
-    print::single(x);
+fn of_single(rt: &HostRuntime, x: u32) -> io::Result<()> {
+    print::single(rt, x)?;
     for i in 0..16 {
-        single(x, EXPONENTS[i]);
+        single(rt, x, EXPONENTS[i])?;
     }
-    print::text(b"\n");
+    print::text(rt, b"\n")
 }
 
-fn of_double(x: u64) {
-    print::double(x);
+fn of_double(rt: &HostRuntime, x: u64) -> io::Result<()> {
+    print::double(rt, x)?;
     for i in 0..16 {
-        double(x, EXPONENTS[i]);
+        double(rt, x, EXPONENTS[i])?;
     }
-    print::text(b"\n");
+    print::text(rt, b"\n")
 }
 
-pub fn singles() {
+pub fn singles(rt: &HostRuntime) -> io::Result<()> {
     for i in 0..32 {
-        of_single(SINGLES[i]);
+        of_single(rt, SINGLES[i])?;
     }
+    Ok(())
 }
 
-pub fn doubles() {
+pub fn doubles(rt: &HostRuntime) -> io::Result<()> {
     for i in 0..32 {
-        of_double(DOUBLES[i]);
+        of_double(rt, DOUBLES[i])?;
     }
+    Ok(())
 }
