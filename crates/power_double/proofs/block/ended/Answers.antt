@@ -1,5 +1,5 @@
 -- `power_double::block::ended` meets its contract: the sum goes into the exponent's field, and the test says whether it stays a normal number's. Assumes nothing.
-use Rattle.std.proofs.Common.{◌≡◌, ℕ, ◌+◌, ◌-◌, ◌*◌, ◌%◌, ◌^◌, ◌<◌, ◌≤◌, ◌∙◌, arith, rules}
+use Rattle.std.proofs.Common.{◌≡◌, ℕ, ◌+◌, ◌-◌, ◌*◌, ◌%◌, ◌^◌, ◌<◌, ◌≤◌, ◌∙◌, arith}
 use lib.Ieee.{binary64, to_bits}
 use Rattle.power.specs.Chain.{exponential_of}
 use Rattle.power.specs.Power.{double}

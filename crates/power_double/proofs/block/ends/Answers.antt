@@ -1,8 +1,8 @@
 -- `power_double::block::ends` meets its contract: one loop over a block, in place: what is read at i is as it was; where none is counted, no flag is set, by power/proofs/Filled.antt. Assumes nothing.
-use Rattle.std.proofs.Common.{◌≡◌, ℕ, ◌-◌, ◌<◌, ◌≤◌, sym, ◌∙◌, subst, arith}
+use Rattle.std.proofs.Common.{ℕ, ◌<◌, subst, arith}
 use Rattle.power.specs.Power.{double}
 use Rattle.power.specs.Stages.{Ended, word_at, two_at}
-use Rattle.power.proofs.Filled.{Both, no-two, two-more, none-set}
+use Rattle.power.proofs.Filled.{two-more, none-set}
 use Rattle.power_double.proofs.block.ends.Goals as goal
 
 -- no place is before the first

@@ -1,5 +1,5 @@
 -- `power_double::block::entry_of` meets its contract: both ways of the test. Assumes nothing.
-use Rattle.std.proofs.Common.{sym, refl, ◌∙◌, rules}
+use Rattle.std.proofs.Common.{sym, refl, ◌∙◌}
 use Rattle.power_double.proofs.block.entry_of.Goals as goal
 
 pub returns-then-is_clear : goal.returns-then-is_clear

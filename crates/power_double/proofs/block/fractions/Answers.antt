@@ -1,11 +1,10 @@
 -- `power_double::block::fractions` meets its contract: one loop over a block, in place: what is read at i is as it was, by power/proofs/Filled.antt. Assumes nothing.
-use Rattle.std.proofs.Common.{ℕ, ◌-◌, ◌<◌, get_or, sym, ◌∙◌, subst, arith}
-use lib.Ieee.{Float, nan}
+use Rattle.std.proofs.Common.{ℕ, get_or, subst, arith}
+use lib.Ieee.{nan}
 use Rattle.power.specs.Power.{double}
 use Rattle.power.specs.Width.{Two}
-use Rattle.power.specs.NoNan.{Finite}
-use Rattle.power.specs.Stages.{Stepped, word_at, two_at}
-use Rattle.power.proofs.Filled.{Three, no-three, three-more}
+use Rattle.power.specs.Stages.{Stepped}
+use Rattle.power.proofs.Filled.{three-more}
 use Rattle.power_double.proofs.block.fractions.Goals as goal
 
 pub loop-i-preserved : goal.loop-i-preserved

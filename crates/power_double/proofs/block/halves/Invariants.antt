@@ -1,13 +1,10 @@
 -- `power_double::block::halves` meets its contract: one loop over a block, in place: what is read at i is as it was, by power/proofs/Filled.antt. Assumes nothing.
-use Rattle.std.proofs.Common.{◌-◌, sym, ap, ◌∙◌, subst, arith}
-use lib.Ieee.{nan, add, binary64}
+use Rattle.std.proofs.Common.{◌-◌}
+use lib.Ieee.{nan}
 use Rattle.power.specs.Power.{double}
-use Rattle.power.specs.Width.{Two}
 use Rattle.power.specs.Chain.{parts_of}
-use Rattle.power.specs.NoNan.{Number}
 use Rattle.power.specs.Stages.{two_at}
-use Rattle.power.proofs.Filled.{Filled, none, one_more, all}
-use Rattle.power.proofs.Blocks.{two_is}
+use Rattle.power.proofs.Filled.{Filled}
 use Rattle.power_double.proofs.block.halves.Given as goal
 
 abbrev pub invariant-loop-i : goal.invariant-loop-i

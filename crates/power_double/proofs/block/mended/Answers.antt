@@ -1,5 +1,4 @@
 -- `power_double::block::mended` meets its contract: both ways of the test. Assumes nothing.
-use Rattle.std.proofs.Common.{rules}
 use Rattle.power_double.proofs.block.mended.Goals as goal
 
 pub returns-then-flag-eq0 : goal.returns-then-flag-eq0

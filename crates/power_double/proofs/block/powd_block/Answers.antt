@@ -1,5 +1,5 @@
 -- `power_double::block::powd_block` meets its contract: a pair is raised by the stages or by a single call. Assumes nothing.
-use Rattle.std.proofs.Common.{ℕ, ◌<◌, ◌≤◌, ◌∙◌, arith, rules}
+use Rattle.std.proofs.Common.{ℕ, ◌<◌, ◌≤◌, arith}
 use Rattle.power.specs.Power.{double}
 use Rattle.power.specs.Stages.{clear, word_at}
 use Rattle.power.proofs.Clear.{flag-most, walked-clear, walked-power, room64}

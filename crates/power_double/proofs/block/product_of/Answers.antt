@@ -1,5 +1,5 @@
 -- `power_double::block::product_of` meets its contract: the logarithm times y. Assumes nothing.
-use Rattle.std.proofs.Common.{◌∙◌, arith, rules}
+use Rattle.std.proofs.Common.{◌∙◌, arith}
 use lib.Ieee.{binary64}
 use Rattle.words.proofs.Floats.{word_number}
 use Rattle.power.proofs.Blocks.{word-is-number}

@@ -1,14 +1,10 @@
 -- `power_double::block::products` meets its contract: one loop over a block, in place: what is read at i is as it was, by power/proofs/Filled.antt. Assumes nothing.
-use Rattle.std.proofs.Common.{◌+◌, ◌-◌, get_or, sym, ap, ◌∙◌, subst, arith}
+use Rattle.std.proofs.Common.{get_or, ap, ◌∙◌, arith}
 use lib.Ieee.{nan, binary64, of_bits}
 use Rattle.power.specs.Power.{double}
 use Rattle.power.specs.Width.{Two}
-use Rattle.power.specs.Chain.{log2_of, con}
-use Rattle.power.specs.Places.{DP-H, DP-L}
-use Rattle.power.specs.NoNan.{Number}
-use Rattle.power.specs.Stages.{times_of, word_at, float_at, two_at}
-use Rattle.power.proofs.Filled.{Filled, none, one_more, all}
-use Rattle.power.proofs.Blocks.{two_is}
+use Rattle.power.specs.Stages.{times_of}
+use Rattle.power.proofs.Filled.{one_more}
 use Rattle.power_double.proofs.block.products.Goals as goal
 
 pub loop-i-preserved : goal.loop-i-preserved

@@ -1,12 +1,10 @@
 -- `power_double::block::ratios` meets its contract: one loop over a block, by power/proofs/Filled.antt. Assumes nothing.
-use Rattle.std.proofs.Common.{ℕ, ◌-◌, ◌^◌, ◌<◌, ◌≤◌, sym, ap, ◌∙◌, subst, arith}
+use Rattle.std.proofs.Common.{◌-◌}
 use lib.Ieee.{nan}
 use Rattle.power.specs.Power.{double}
 use Rattle.power.specs.Chain.{reduced_of, exponent_of}
-use Rattle.power.specs.NoNan.{Number}
 use Rattle.power.specs.Stages.{ratio_of, word_at}
-use Rattle.power.proofs.Filled.{Filled, none, one_more, all}
-use Rattle.power.proofs.Blocks.{three-is}
+use Rattle.power.proofs.Filled.{Filled}
 use Rattle.power_double.proofs.block.ratios.Given as goal
 
 abbrev pub invariant-loop-i : goal.invariant-loop-i

@@ -1,8 +1,8 @@
 -- `power_double::block::singly` meets its contract: one loop over a block, by power/proofs/Filled.antt. Assumes nothing.
-use Rattle.std.proofs.Common.{◌-◌, sym, ◌∙◌, arith, rules}
+use Rattle.std.proofs.Common.{◌-◌}
 use Rattle.power.specs.Power.{pow64}
 use Rattle.power.specs.Stages.{word_at}
-use Rattle.power.proofs.Filled.{Filled, none, one_more, all}
+use Rattle.power.proofs.Filled.{Filled}
 use Rattle.power_double.proofs.block.singly.Given as goal
 
 abbrev pub invariant-loop-i : goal.invariant-loop-i

@@ -1,9 +1,8 @@
 -- `power_double::block::sorted` meets its contract: one loop over a block; a flag counts one at most, by power/proofs/Filled.antt. Assumes nothing.
-use Rattle.std.proofs.Common.{◌-◌, ◌≤◌, cond, sym, ◌∙◌, arith, rules}
+use Rattle.std.proofs.Common.{◌-◌, ◌≤◌, cond}
 use Rattle.power.specs.Power.{double}
 use Rattle.power.specs.Stages.{clear, walked_with, word_at}
-use Rattle.power.proofs.Filled.{Filled, none, one_more, all}
-use Rattle.power.proofs.Clear.{flag-most}
+use Rattle.power.proofs.Filled.{Filled}
 use Rattle.power_double.proofs.block.sorted.Given as goal
 
 abbrev pub invariant-loop-i : goal.invariant-loop-i

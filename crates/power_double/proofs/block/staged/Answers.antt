@@ -1,5 +1,5 @@
 -- `power_double::block::staged` meets its contract: the stages one after the other; what they leave of a pair whose flag is 0 is its power, by power/proofs/Blocks.antt. Assumes nothing.
-use Rattle.std.proofs.Common.{sym, ◌∙◌, subst, lit≤, rules}
+use Rattle.std.proofs.Common.{sym, subst, lit≤}
 use Rattle.power.specs.Power.{double}
 use Rattle.power.specs.Width.{Two}
 use Rattle.power.specs.NoNan.{Finite}

@@ -1,5 +1,5 @@
 -- `power_double::block::start_of` meets its contract: the interval of a normal word, and the definition's quotient. Assumes nothing.
-use Rattle.std.proofs.Common.{◌≡◌, ◌+◌, sym, ap, ◌∙◌, subst, arith, rules}
+use Rattle.std.proofs.Common.{◌≡◌, ◌+◌, sym, ap, ◌∙◌, subst, arith}
 use lib.Ieee.{binary64, of_bits}
 use Rattle.words.proofs.Floats.{word_number}
 use Rattle.power.specs.Width.{Three, Reduction}

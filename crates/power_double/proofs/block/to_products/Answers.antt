@@ -1,5 +1,5 @@
 -- `power_double::block::to_products` meets its contract: the stages of the logarithm and the product, one after the other; no NaN arises, since the pairs are clear. Assumes nothing.
-use Rattle.std.proofs.Common.{ℕ, ◌<◌, sym, ◌∙◌, subst, rules}
+use Rattle.std.proofs.Common.{ℕ, ◌<◌, sym, ◌∙◌, subst}
 use lib.Ieee.{binary64, of_bits}
 use Rattle.power.specs.Power.{double}
 use Rattle.power.specs.Width.{Two}
@@ -26,8 +26,7 @@ pub products-requires-clause-each : goal.products-requires-clause-each
 products-requires-clause-each c j k =
     let a = clear-is double _ _ (c.requires.each j k) in
     let e = c.logarithms.ensures j k ∙ logarithm-is double _ (c.ratios.ensures.each_3 j k) (c.serieses.ensures j k) in
-    let i = c.ratios.ensures.each_2 j k in
-    (
+    let i = c.ratios.ensures.each_2 j k in (
       y-finite double room64 a,
       subst (λ (n : ℕ). n < 2) (sym i) (reduced-small double _),
       subst (λ (t : Two). Number t.lo) (sym (log2-is double _ e i (c.ratios.ensures.each_4 j k))) (far-number double known64 room64 a),

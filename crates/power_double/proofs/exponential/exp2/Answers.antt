@@ -1,5 +1,5 @@
 -- `power_double::exponential::exp2` meets its contract: a z within the limits is small enough for `fraction`, and each call returns its part, by power/proofs/Stages.antt. Assumes nothing.
-use Rattle.std.proofs.Common.{sym, ap, ◌∙◌, subst, le_trans, lit<, lit≤, rules}
+use Rattle.std.proofs.Common.{sym, ap, ◌∙◌, subst, le_trans, lit<, lit≤}
 use lib.Ieee.{binary64, to_bits}
 use Rattle.power.specs.Chain.{parts_of, exponential_of}
 use Rattle.power.specs.NoNan.{Number}

@@ -1,5 +1,5 @@
 -- `power_double::exponential::fate_of` meets its contract: each return is one way of the fate, by power/proofs/Limits.antt. Assumes nothing.
-use Rattle.std.proofs.Common.{true, false, refl, arith, rules}
+use Rattle.std.proofs.Common.{true, false, refl, arith}
 use lib.Ieee.{binary64}
 use lib.Ieee.Bits.{to_bits-lt}
 use lib.Ieee.Fits.{add-fits}

@@ -1,5 +1,5 @@
 -- `power_double::exponential::fraction` meets its contract: the sum is the definition's where it is sure, and elsewhere the digits are, by power/proofs/Stages.antt. Assumes nothing.
-use Rattle.std.proofs.Common.{true, false, arith, rules, le-ltb, lt-ltb, le-leb}
+use Rattle.std.proofs.Common.{true, false, arith, le-ltb, lt-ltb, le-leb}
 use borrow.Author.Tests.{lt-leb}
 use Rattle.power.specs.Power.{double}
 use Rattle.power.proofs.Stages.{taken-off, left_alone}
@@ -22,7 +22,7 @@ pub returns-then-j-ge2147483648 : goal.returns-then-j-ge2147483648
 returns-then-j-ge2147483648 c =
     let n = c.nearest_to-n in
     let a = c.args in
-    let r = taken-off double a.h a.z c.get_high_word-j.ensures (lt-ltb _ _ (rw size32 at c.if-j-gt1071644672.true)) (nearest n.result) n.ensures.0 true
+    let r = taken-off double a.h a.z c.get_high_word-j.ensures (lt-ltb _ _ (rw size32 at c.if-j-gt1071644672.true)) (nearest n.result) n.ensures.result_value true
     (le-leb _ _ c.if-j-ge2147483648.true) in
     (r.0, r.1, omega arith)
 
@@ -30,9 +30,9 @@ pub returns-else-j-ge2147483648 : goal.returns-else-j-ge2147483648
 returns-else-j-ge2147483648 c =
     let n = c.nearest_to-n in
     let a = c.args in
-    let r = taken-off double a.h a.z c.get_high_word-j.ensures (lt-ltb _ _ (rw size32 at c.if-j-gt1071644672.true)) (nearest n.result) n.ensures.0 false
+    let r = taken-off double a.h a.z c.get_high_word-j.ensures (lt-ltb _ _ (rw size32 at c.if-j-gt1071644672.true)) (nearest n.result) n.ensures.result_value false
     (lt-leb _ _ c.if-j-ge2147483648.false) in
-    (r.0, r.1, omega (arith, n.ensures.1))
+    (r.0, r.1, omega (arith, n.ensures.size_bound))
 
 pub returns : goal.returns
 returns c =

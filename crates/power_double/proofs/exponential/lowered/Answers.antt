@@ -1,5 +1,5 @@
 -- `power_double::exponential::lowered` meets its contract: the code's masks and shifts in plain arithmetic, by power/proofs/Words.antt. Assumes nothing.
-use Rattle.std.proofs.Common.{arith, rules}
+use Rattle.std.proofs.Common.{arith}
 use Rattle.power.proofs.Words.{half-some, bias-small, sum-small, half-even-is}
 use Rattle.power_double.proofs.exponential.lowered.Goals as goal
 

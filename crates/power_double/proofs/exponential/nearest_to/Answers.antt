@@ -1,5 +1,5 @@
 -- `power_double::exponential::nearest_to` meets its contract: `known` bounds the shifts and differences, and `nearest-is` is the result, by power/proofs/NearestWhole.antt. Assumes nothing.
-use Rattle.std.proofs.Common.{◌≡◌, ℕ, ◌+◌, ◌*◌, ◌%◌, ◌^◌, ◌<◌, ◌≤◌, not, T, refl, ap, ◌∙◌, add-zero, arith, lit≤, rules}
+use Rattle.std.proofs.Common.{◌≡◌, ℕ, ◌+◌, ◌*◌, ◌%◌, ◌^◌, ◌<◌, ◌≤◌, not, T, refl, ap, ◌∙◌, add-zero, arith, lit≤}
 use mathlib.Core.Path.{subst⁻¹}
 use lib.Ieee.{binary64, is_nan, nan_bits, of_bits, to_bits}
 use Rattle.power.proofs.HighWord.{high64}

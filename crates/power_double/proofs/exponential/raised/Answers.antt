@@ -1,5 +1,5 @@
 -- `power_double::exponential::raised` meets its contract: each return is one way of the raised exponent, by power/proofs/HighWord.antt. Assumes nothing.
-use Rattle.std.proofs.Common.{ℕ, ◌+◌, ◌/◌, ◌^◌, ◌<◌, T, sym, ap, ◌∙◌, subst, arith, rules}
+use Rattle.std.proofs.Common.{ℕ, ◌+◌, ◌/◌, ◌^◌, ◌<◌, T, sym, ap, ◌∙◌, subst, arith}
 use lib.Ieee.{binary64, fits, to_bits}
 use lib.Ieee.Bits.{to_bits-lt}
 use Rattle.power.proofs.Exponent.{unbiased-back}

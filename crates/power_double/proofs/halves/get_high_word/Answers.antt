@@ -1,5 +1,5 @@
 -- `power_double::halves::get_high_word` meets its contract: the word is shifted. Assumes nothing.
-use Rattle.std.proofs.Common.{T, sym, subst, arith, rules}
+use Rattle.std.proofs.Common.{T, sym, subst, arith}
 use lib.Ieee.{binary64}
 use lib.Ieee.Bits.{to_bits-lt}
 use Rattle.power.proofs.Nan.{is_number}

@@ -1,5 +1,5 @@
 -- `power_double::logarithm::far` meets its contract: the operations are the definition's, in its order. Assumes nothing.
-use Rattle.std.proofs.Common.{◌≡◌, sym, ap, ◌∙◌, subst, arith, rules}
+use Rattle.std.proofs.Common.{◌≡◌, sym, ap, ◌∙◌, subst, arith}
 use lib.Ieee.{binary64}
 use Rattle.words.proofs.Floats.{word_number}
 use Rattle.power.specs.Chain.{log2_of, far_at, far_of}

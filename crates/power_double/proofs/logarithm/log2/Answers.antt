@@ -1,6 +1,5 @@
 -- `power_double::logarithm::log2` meets its contract: the operations are the definition's, in its order. Assumes nothing.
 use Rattle.power.specs.Chain.{log2_of}
-use Rattle.std.proofs.Common.{rules}
 use Rattle.power_double.proofs.logarithm.log2.Goals as goal
 
 pub sum-requires : goal.sum-requires

@@ -1,6 +1,5 @@
 -- `power_double::logarithm::near` meets its contract: the operations are the definition's, in its order. Assumes nothing.
 use Rattle.power.specs.Chain.{near_of}
-use Rattle.std.proofs.Common.{rules}
 use Rattle.power_double.proofs.logarithm.near.Goals as goal
 
 pub split-requires : goal.split-requires

@@ -1,5 +1,5 @@
 -- `power_double::pow::finish` meets its contract: each return is the end of its fate, by `finish-ended` and `finish-within`. Assumes nothing.
-use Rattle.std.proofs.Common.{sym, ap, ◌∙◌, rules}
+use Rattle.std.proofs.Common.{sym, ap, ◌∙◌}
 use lib.Ieee.{binary64, to_bits}
 use Rattle.power.specs.Chain.{over_of, under_of}
 use Rattle.power.specs.Power.{double}

@@ -1,5 +1,5 @@
 -- `power_double::pow::open` meets its contract: each way is the definition's. Assumes nothing.
-use Rattle.std.proofs.Common.{◌≡◌, ◌/◌, ◌%◌, ◌^◌, true, ltb, inl, inr, ⊎_elim, mod-lt, arith, rules, le-ltb, lt-ltb, le-leb}
+use Rattle.std.proofs.Common.{◌≡◌, ◌/◌, ◌%◌, ◌^◌, true, ltb, inl, inr, mod-lt, arith, le-ltb, lt-ltb, le-leb}
 use borrow.Author.Tests.{lt-leb}
 use lib.Ieee.{binary64, of_bits}
 use Rattle.power.specs.Chain.{log_of, open_of}
@@ -21,7 +21,7 @@ above c = let y = c.args.y in lt-ltb 0x41e00000 (y % 2 ^ 63 / 2 ^ 32) (omega (ar
 reaches : (c : Joined-iy-gt1105199104) → Reaches double (c.args.x % 2 ^ 63 / 2 ^ 32) (c.args.y % 2 ^ 63 / 2 ^ 32)
 reaches c =
     let y = c.args.y in
-    elim c.if-iy-gt1105199104.branch [ inl w ↦ inr (le-ltb _ _ (rw size64 at w.1.left), le-ltb _ _ (rw size64 at w.2.left), le-ltb _ _ (rw size64 at w.3.left)) | inr w ↦ inl (le-ltb 0x41e00000 (y % 2 ^ 63 / 2 ^ 32) (omega (arith, size64 y, w.left))) ]
+    elim c.if-iy-gt1105199104.branch [ goal.then-iy-gt1105199104+else-iy-gt1139802112+else-ix-lt1072693247+else-ix-gt1072693248 w ↦ inr (le-ltb _ _ (rw size64 at w.if-iy-gt1139802112.false), le-ltb _ _ (rw size64 at w.if-ix-lt1072693247.false), le-ltb _ _ (rw size64 at w.if-ix-gt1072693248.false)) | goal.else-iy-gt1105199104 w ↦ inl (le-ltb 0x41e00000 (y % 2 ^ 63 / 2 ^ 32) (omega (arith, size64 y, w.if-iy-gt1105199104.false))) ]
 
 -- the numbers on the way there
 way : (c : Joined-iy-gt1105199104) → let c = c.args in
@@ -111,13 +111,16 @@ finish-requires c = simp (c.product.ensures, c.log_of.ensures, size64) (way (goa
 pub returns : goal.returns
 unfolding open_of
 returns c =
-    elim c.if-iy-gt1105199104.branch [ inl w ↦ simp (
-      c.finish.ensures,
-      c.product.ensures,
-      c.log_of.ensures,
-      size64,
-      lt-ltb _ _ (rw size64 at w.0.taken),
-      le-ltb _ _ (rw size64 at w.1.left),
-      le-ltb _ _ (rw size64 at w.2.left),
-      le-ltb _ _ (rw size64 at w.3.left),
-    ) | inr w ↦ simp (c.finish.ensures, c.product.ensures, c.log_of.ensures, size64, le-ltb _ _ (rw size64 at w.left)) ]
+    elim c.if-iy-gt1105199104.branch [
+      | goal.then-iy-gt1105199104+else-iy-gt1139802112+else-ix-lt1072693247+else-ix-gt1072693248 w ↦ simp (
+        c.finish.ensures,
+        c.product.ensures,
+        c.log_of.ensures,
+        size64,
+        lt-ltb _ _ (rw size64 at w.if-iy-gt1105199104.true),
+        le-ltb _ _ (rw size64 at w.if-iy-gt1139802112.false),
+        le-ltb _ _ (rw size64 at w.if-ix-lt1072693247.false),
+        le-ltb _ _ (rw size64 at w.if-ix-gt1072693248.false),
+      )
+      | goal.else-iy-gt1105199104 w ↦ simp (c.finish.ensures, c.product.ensures, c.log_of.ensures, size64, le-ltb _ _ (rw size64 at w.if-iy-gt1105199104.false))
+    ]

@@ -1,5 +1,5 @@
 -- `power_double::pow::powd` meets its contract: a settled pair is the sorting's, and an open one the chain's. Assumes nothing.
-use Rattle.std.proofs.Common.{sym, ap, ◌∙◌, rules}
+use Rattle.std.proofs.Common.{sym, ap, ◌∙◌}
 use lib.Ieee.{binary64}
 use Rattle.power.specs.Power.{double}
 use Rattle.power.specs.Sorting.{told}

@@ -1,6 +1,5 @@
 -- `power_double::pow::sign` meets its contract: each way is the definition's. Assumes nothing.
 use Rattle.power.specs.Chain.{sign_of}
-use Rattle.std.proofs.Common.{rules}
 use Rattle.power_double.proofs.pow.sign.Goals as goal
 
 pub returns-then-negative : goal.returns-then-negative

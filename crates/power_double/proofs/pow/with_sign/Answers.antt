@@ -1,5 +1,4 @@
 -- `power_double::pow::with_sign` meets its contract: each way is the definition's. Assumes nothing.
-use Rattle.std.proofs.Common.{rules}
 use Rattle.power_double.proofs.pow.with_sign.Goals as goal
 
 pub returns-then-negative : goal.returns-then-negative

@@ -1,5 +1,5 @@
 -- `power_double::reduction::exponent` meets its contract: the field without its bias is a float. Assumes nothing.
-use Rattle.std.proofs.Common.{ap, arith, rules}
+use Rattle.std.proofs.Common.{ap, arith}
 use lib.Ieee.{binary64, of_int}
 use Rattle.power.specs.Chain.{exponent_of}
 use Rattle.power.proofs.Exponent.{unbiased-back}

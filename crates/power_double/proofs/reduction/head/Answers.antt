@@ -1,5 +1,5 @@
 -- `power_double::reduction::head` meets its contract: the masks are sums, by `headed`. Assumes nothing.
-use Rattle.std.proofs.Common.{◌/◌, ap, arith, rules}
+use Rattle.std.proofs.Common.{◌/◌, ap, arith}
 use lib.Ieee.{binary64, of_bits}
 use Rattle.words.proofs.Floats.{word_number}
 use Rattle.power.specs.Chain.{head_of}

@@ -1,5 +1,5 @@
 -- `power_double::reduction::interval` meets its contract: the three intervals by sums alone, by power/proofs/Intervals.antt. Assumes nothing.
-use Rattle.std.proofs.Common.{arith, rules}
+use Rattle.std.proofs.Common.{arith}
 use Rattle.power.specs.Power.{double}
 use Rattle.power.proofs.Intervals.{spaced64, interval-by-sums}
 use Rattle.power_double.proofs.reduction.interval.Goals as goal

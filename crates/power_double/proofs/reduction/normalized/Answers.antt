@@ -1,5 +1,5 @@
 -- `power_double::reduction::normalized` meets its contract: the shift is 2 ^ prec, by power/proofs/Normalized.antt. Assumes nothing.
-use Rattle.std.proofs.Common.{◌^◌, arith, lit≤, rules}
+use Rattle.std.proofs.Common.{◌^◌, arith, lit≤}
 use Rattle.power.specs.Power.{double}
 use Rattle.power.proofs.Subnormal.{two64}
 use Rattle.power.proofs.Normalized.{shift-some, shift-most, normalized}

@@ -1,5 +1,5 @@
 -- `power_double::reduction::reduce` meets its contract: each way is the definition's. Assumes nothing.
-use Rattle.std.proofs.Common.{arith, rules, le-ltb, lt-ltb}
+use Rattle.std.proofs.Common.{arith, le-ltb, lt-ltb}
 use Rattle.power.specs.Chain.{reduced_of}
 use Rattle.power_double.proofs.reduction.reduce.Goals as goal
 

@@ -1,7 +1,6 @@
 -- `power_double::table::constant` meets its contract: the array's word is the table's. Assumes nothing.
 use Rattle.power.specs.Chain.{con}
 use Rattle.power.specs.Table64.{table64}
-use Rattle.std.proofs.Common.{rules}
 use Rattle.power_double.proofs.table.constant.Goals as goal
 
 pub returns : goal.returns

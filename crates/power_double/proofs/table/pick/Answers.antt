@@ -1,5 +1,5 @@
 -- `power_double::table::pick` meets its contract: the masks leave the table's word, by power/proofs/Picked.antt. Assumes nothing.
-use Rattle.std.proofs.Common.{ℕ, ◌+◌, not, T, ap, arith, rules}
+use Rattle.std.proofs.Common.{ℕ, ◌+◌, not, T, ap, arith}
 use mathlib.Core.Path.{subst⁻¹}
 use lib.Ieee.{binary64, nan_bits, of_bits}
 use Rattle.power.specs.Chain.{con}
