@@ -1,5 +1,7 @@
 // Batches: roots, scalings and powers of many words at once, over lent slices. Operands are only
 // read. A refused batch writes nothing.
+#![tactic(auto)]
+
 pub mod digits;
 pub mod double;
 pub mod outcome;

@@ -1,0 +1,19 @@
+-- `stream::single::scalbnf_at` meets its contract. Assumes nothing.
+use mathlib.Core.Path.{◌∙◌}
+use native.Mathlib.Omega.{arith}
+use borrow.Author.Rules.{sfits_of}
+use lib.ListN.{drop}
+use mir.ValLaws.{to_z-of_z}
+use Rattle.stream.proofs.Places.{first_of, second-of}
+use Rattle.stream.proofs.single.scalbnf_at.Goals as goal
+
+pub returns : goal.returns
+returns c =
+    simp (to_z-of_z, sfits_of, c.signed4.type_inv) at c.scaled32.ensures
+    ∙ rw (
+      c.word4.ensures,
+      c.signed4.ensures,
+      c.word4-2.ensures,
+      first_of 4 4 (drop c.args.at c.args.b.now),
+      second-of 4 4 c.args.at c.args.b.now (omega arith),
+    )
