@@ -1,5 +1,7 @@
 // Berkeley TestFloat's lists of roots: lines of an operand, a result and flags, read from pieces of
 // any size and held to what the library answers.
+#![tactic(auto)]
+
 mod buffer;
 mod digits;
 mod ended;

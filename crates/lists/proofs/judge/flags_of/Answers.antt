@@ -8,12 +8,12 @@ use borrow.Author.Tests.{lt-ltb, le-ltb}
 use lib.Dec.{ltb}
 use Rattle.words.specs.Format.{Format, format, infinity, quiet, top, magnitude}
 use Rattle.words.specs.Rounding.{bit}
-use Rattle.root.proofs.Words.{Fine, held-fine}
-use Rattle.lists.specs.Judge.{marks, root_flags}
+use Rattle.root.proofs.Words.{held-fine}
+use Rattle.lists.specs.Judge.{marks, exact, root_flags}
 use Rattle.lists.specs.declared.marks.Marks.{Marks}
 use Rattle.lists.proofs.Flags.{below_top, flags-nan, flags-negative, flags-own, flags-rounded, sign_set}
-use Rattle.lists.proofs.judge.flags_of.Statement.{statement}
-use Rattle.lists.proofs.judge.flags_of.Tie as tie
+use Rattle.lists.proofs.judge.flags_of.Goals as goal
+use Rattle.lists.proofs.judge.flags_of.Goals.{After-size_of-size}
 
 -- the code's marks are the format's, and its size the operand's
 record Known (f : Format) (x : ℕ) (m : Marks) (size : ℕ) : Type 0 where
@@ -28,21 +28,21 @@ known f x m e s = record {
   size_is = s ∙ ap (λ (m : Marks). x % m.top) e;
 }
 
-module _ (c : tie.After-size-of) where
+module _ (c : After-size_of-size) where
   abbrev x : ℕ
-  x = c.before.before.args.x
+  x = c.args.x
 
   abbrev f : Format
-  f = format c.before.before.args.p c.before.before.args.emax
+  f = format c.args.p c.args.emax
 
   abbrev m : Marks
-  m = c.before.marks-of.result
+  m = c.marks_of-m.result
 
   abbrev size : ℕ
-  size = c.size_of.result
+  size = c.size_of-size.result
 
   k : Known f x m size
-  k = known f x m c.before.marks-of.ensures c.size_of.ensures
+  k = known f x m c.marks_of-m.ensures c.size_of-size.ensures
 
   nan : m.infinity < size → root_flags f x ≡ 16 * bit (ltb (magnitude f x) (quiet f))
   nan h = flags-nan f x (omega (arith, h, k.infinity-is, k.size_is))
@@ -72,37 +72,63 @@ module _ (c : tie.After-size-of) where
   below : size ≤ m.infinity → x ≤ size → ¬ (x ≡ m.infinity) → x < infinity f
   below h l n = omega (arith, h, l, n, k.infinity-is)
 
-module _ (c : tie.Else6) where
-  abbrev s : tie.After-size-of
-  s = c.before.before.before.before.before.before
+  some : ¬ (x ≡ 0) → 0 < x
+  some z = omega (arith, z)
 
-  some : 0 < x s
-  some = omega (arith, c.before.before.if5.false)
+  rounded : {b : Bool} → ¬ (x ≡ 0) → x < infinity f → b ≡ exact f x → root_flags f x ≡ bit (not b)
+  rounded z l e =
+      flags-rounded f x (held-fine c.args.p c.args.emax c.requires.0) (omega (arith, c.requires.0.small)) (some z) l e
 
-  finite : x s < infinity (f s)
-  finite = below s c.before.before.before.before.if1.false c.before.before.before.if3.false c.if6.false
+pub size_of-size-requires : goal.size_of-size-requires
+size_of-size-requires c = below_top _ c.marks_of-m.ensures c.requires.1
 
-  fine : Fine (f s)
-  fine = held-fine s.before.before.args.p s.before.before.args.emax s.before.before.pre.0
+pub returns-then-size-m : goal.returns-then-size-m
+returns-then-size-m c =
+    let k = (goal.at.returns-then-size-m c).After-size_of-size in
+    signalling k c.if-m-size.true (omega (arith, c.if-size-m.true))
 
-  few : (f s).digits ≤ 60
-  few = omega (arith, s.before.before.pre.0.small)
+pub returns-else-size-m : goal.returns-else-size-m
+returns-else-size-m c =
+    let k = (goal.at.returns-else-size-m c).After-size_of-size in
+    quieted k c.if-m-size.true (omega (arith, c.if-size-m.false))
 
-exact : (c : tie.After-is-exact) → root_flags (f (s c.before)) (x (s c.before)) ≡ bit (not c.is-exact.result)
-exact c = let d = c.before in flags-rounded (f (s d)) (x (s d)) (fine d) (few d) (some d) (finite d) c.is-exact.ensures
+pub returns-then-size-eq0 : goal.returns-then-size-eq0
+returns-then-size-eq0 c =
+    let k = (goal.at.returns-then-size-eq0 c).After-size_of-size in
+    minus-zero k c.if-m-size.false c.if-size-x.true c.if-size-eq0.true
 
-pub flags-of-spec : {M : Type 1} → statement M
-flags-of-spec =
-    tie.close
-    (tie.spec
-    (λ c κs. search rules)
-    (λ c κs. below_top _ c.marks-of.ensures c.before.requires.1)
-    (λ c. signalling c.before.before.before.before c.before.before.if1.true (omega (arith, c.if2.true)))
-    (λ c. quieted c.before.before.before.before c.before.before.if1.true (omega (arith, c.if2.false)))
-    (λ c. minus-zero c.before.before.before.before c.before.before.if1.false c.before.if3.true c.if4.true)
-    (λ c. negative c.before.before.before.before c.before.before.if1.false c.before.if3.true c.if4.false)
-    (λ c. zero c.before.before.before.before c.if5.true)
-    (λ c. let d = c.before.before in infinite d.before.before.before.before c.if6.true)
-    (λ c κs. (((s c).before.before.requires.0, some c, finite c), (s c).before.before.requires.2))
-    (λ c. sym (exact c.before ∙ ap (λ (b : Bool). bit (not b)) c.if7.true))
-    (λ c. sym (exact c.before ∙ ap (λ (b : Bool). bit (not b)) c.if7.false)))
+pub returns-else-size-eq0 : goal.returns-else-size-eq0
+returns-else-size-eq0 c =
+    let k = (goal.at.returns-else-size-eq0 c).After-size_of-size in
+    negative k c.if-m-size.false c.if-size-x.true c.if-size-eq0.false
+
+pub returns-then-x-eq0 : goal.returns-then-x-eq0
+returns-then-x-eq0 c =
+    let k = (goal.at.returns-then-x-eq0 c).After-size_of-size in
+    zero k c.if-x-eq0.true
+
+pub returns-then-x-m : goal.returns-then-x-m
+returns-then-x-m c =
+    let k = (goal.at.returns-then-x-m c).After-size_of-size in
+    infinite k c.if-x-m.true
+
+pub is_exact-requires : goal.is_exact-requires
+is_exact-requires c =
+    let k = (goal.at.is_exact-requires c).After-size_of-size in
+    let k = k in
+    record {
+      held = (c.requires.0, some k c.if-x-eq0.false, below k c.if-m-size.false c.if-size-x.false c.if-x-m.false);
+      root_value = c.requires.2;
+    }
+
+pub returns-then-is_exact : goal.returns-then-is_exact
+returns-then-is_exact c =
+    let k = (goal.at.returns-then-is_exact c).After-size_of-size in
+    let k = k in
+    sym (rounded k c.if-x-eq0.false (below k c.if-m-size.false c.if-size-x.false c.if-x-m.false) c.is_exact.ensures ∙ ap (λ (b : Bool). bit (not b)) c.if-is_exact.true)
+
+pub returns-else-is_exact : goal.returns-else-is_exact
+returns-else-is_exact c =
+    let k = (goal.at.returns-else-is_exact c).After-size_of-size in
+    let k = k in
+    sym (rounded k c.if-x-eq0.false (below k c.if-m-size.false c.if-size-x.false c.if-x-m.false) c.is_exact.ensures ∙ ap (λ (b : Bool). bit (not b)) c.if-is_exact.false)

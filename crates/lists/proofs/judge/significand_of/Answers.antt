@@ -8,10 +8,10 @@ use lib.Bits.{bit_and}
 use lib.Pow.{pow_pos, pow_mono}
 use Rattle.words.proofs.Digits.{one_shl}
 use Rattle.root.proofs.Words.{mask_is}
-use Rattle.lists.proofs.judge.significand_of.Statement.{statement}
-use Rattle.lists.proofs.judge.significand_of.Tie as tie
+use Rattle.lists.proofs.judge.significand_of.Goals as goal
+use Rattle.lists.proofs.judge.significand_of.Goals.{Start}
 
-module _ (c : tie.Start) where
+module _ (c : Start) where
   abbrev p : ℕ
   p = c.args.p
 
@@ -27,13 +27,11 @@ module _ (c : tie.Start) where
   masked : bit_and x (1 * 2 ^ (p - 1) % 2 ^ 64 - 1) ≡ x % 2 ^ (p - 1)
   masked = mask_is p x c.requires.1
 
-pub significand-of-spec : {M : Type 1} → statement M
-significand-of-spec =
-    tie.close
-    (tie.spec
-    (λ c. search rules)
-    (λ c. search rules)
-    (λ c. search rules)
-    (λ c. omega (arith, hid-is c, pow_pos (p c - 1)))
-    (λ c. record { fits = omega (arith, hid-is c, masked c, small c) })
-    (λ c. rw (masked c, hid-is c) refl))
+pub overflow_sub-result : goal.overflow_sub-result
+overflow_sub-result c = omega (arith, hid-is (goal.at.overflow_sub-result c).Start, pow_pos (p (goal.at.overflow_sub-result c).Start - 1))
+
+pub overflow_add-result : goal.overflow_add-result
+overflow_add-result c = record { fits = omega (arith, hid-is (goal.at.overflow_add-result c).Start, masked (goal.at.overflow_add-result c).Start, small (goal.at.overflow_add-result c).Start) }
+
+pub returns : goal.returns
+returns c = rw (masked (goal.at.returns c).Start, hid-is (goal.at.returns c).Start) refl
