@@ -1,12 +1,11 @@
 -- `lists::buffer::longer` meets its contract: the bytes copied follow those that count. Assumes nothing.
-use Prim.Native.Nat.{ℕ, ◌+◌, ◌-◌, ◌≤◌, ◌<◌}
+use Prim.Native.Nat.{ℕ, ◌+◌, ◌≤◌, ◌<◌}
 use mathlib.Core.Path.{◌≡◌, sym, ap, ◌∙◌}
 use mathlib.Core.List.{List}
 use native.Mathlib.Omega.{arith}
 use native.Mathlib.Numerals.{add-one}
-use borrow.Author.Rules.{rules}
-use lib.ListN.{length, length-map, take, get_or, set}
-use lib.Seq.{paste, paste-zero, paste-suc, take-paste}
+use lib.ListN.{length, take, get_or, set}
+use lib.Seq.{paste, paste-suc, take-paste}
 use Rattle.lists.specs.Reader.{line_of}
 use Rattle.lists.proofs.Keeping.{joined-kept}
 use Rattle.lists.proofs.buffer.longer.Goals as goal
@@ -36,26 +35,6 @@ module _ (c : After-at_most-more) where
   enough : more ≤ length s
   enough = omega (arith, c.at_most-more.ensures)
 
-pub loop-i-init : goal.loop-i-init
-loop-i-init c =
-    let k = (goal.at.loop-i-init c).After-at_most-more in
-    (paste-zero (bytes k) (held k) (s k), omega arith)
-
-pub bounds-s-i : goal.bounds-s-i
-bounds-s-i c =
-    let k = (goal.at.bounds-s-i c).After-at_most-more in
-    omega (arith, enough k, c.loop-i-test.true)
-
-pub overflow_add-bytes : goal.overflow_add-bytes
-overflow_add-bytes c =
-    let k = (goal.at.overflow_add-bytes c).After-at_most-more in
-    record { fits = omega (arith, room k, c.loop-i-test.true) }
-
-pub bounds-bytes-open : goal.bounds-bytes-open
-bounds-bytes-open c =
-    let k = (goal.at.bounds-bytes-open c).After-at_most-more in
-    omega (arith, room k, c.loop-i-test.true)
-
 pub loop-i-preserved : goal.loop-i-preserved
 loop-i-preserved c =
     let k = (goal.at.loop-i-preserved c).After-at_most-more in
@@ -66,11 +45,6 @@ loop-i-preserved c =
           ∙ ap (paste (bytes k) (held k) (s k)) (sym (add-one i)),
       omega (arith, less),
     )
-
-pub overflow_add-open : goal.overflow_add-open
-overflow_add-open c =
-    let k = (goal.at.overflow_add-open c).After-at_most-more in
-    record { fits = omega (arith, room k) }
 
 pub returns : goal.returns
 returns c =

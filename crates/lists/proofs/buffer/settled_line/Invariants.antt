@@ -1,13 +1,7 @@
 -- `lists::buffer::settled_line` meets its contract: the loop's zeros follow the bytes that count. Assumes nothing.
-use Prim.Native.Nat.{ℕ, ◌-◌}
-use mathlib.Core.Path.{◌≡◌, sym, ap, ◌∙◌}
-use mathlib.Core.List.{List, ◌++◌}
-use native.Mathlib.Omega.{arith}
-use borrow.Author.Rules.{rules}
-use lib.ListN.{length, take, replicate, length-map}
-use Rattle.lists.specs.Reader.{text_of}
-use Rattle.lists.specs.declared.tally.Line.{Line}
-use Rattle.lists.proofs.Keeping.{Filled, take_min, counts, fill-begin, fill-next, fill_end}
+use Prim.Native.Nat.{◌-◌}
+use lib.ListN.{take}
+use Rattle.lists.proofs.Keeping.{Filled}
 use Rattle.lists.proofs.buffer.settled_line.Given as goal
 
 abbrev pub invariant-loop-i : goal.invariant-loop-i

@@ -1,6 +1,5 @@
 -- `lists::digits::among` meets its contract: its one test tells whether a character is in the run. Assumes nothing.
 use mathlib.Core.Path.{refl}
-use borrow.Author.Rules.{rules}
 use Rattle.lists.proofs.Characters.{place_inside, place-outside}
 use Rattle.lists.proofs.digits.among.Goals as goal
 

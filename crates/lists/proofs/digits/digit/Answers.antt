@@ -1,7 +1,6 @@
 -- `lists::digits::digit` meets its contract: the three runs one after the other. Assumes nothing.
 use Prim.Native.Nat.{ℕ, ◌≤◌}
 use mathlib.Core.Path.{◌≡◌, sym, ap, subst, ◌∙◌}
-use borrow.Author.Rules.{rules}
 use Rattle.lists.specs.Digits.{among_of, digit_of}
 use Rattle.lists.proofs.Characters.{value-most}
 use Rattle.lists.proofs.digits.digit.Goals as goal

@@ -1,19 +1,14 @@
 -- `lists::digits::hex_number` meets its contract: the loop keeps Hex's Reading, and each way out is one of its laws. Assumes nothing.
-use Prim.Native.Nat.{◌+◌, ◌-◌, ◌*◌, ◌<◌}
+use Prim.Native.Nat.{◌+◌, ◌*◌, ◌<◌}
 use mathlib.Core.Path.{sym, ◌∙◌}
 use native.Mathlib.Omega.{arith}
-use borrow.Author.Rules.{rules}
-use lib.ListN.{length}
-use Rattle.lists.proofs.Hex.{Reading, begin, next, bad, end, room}
+use Rattle.lists.proofs.Hex.{next, bad, end, room}
 use Rattle.lists.proofs.digits.hex_number.Goals as goal
 use Rattle.lists.proofs.digits.hex_number.Goals.{Else-d-ge16}
 
 -- the digit's sum fits, and the digit's product within it
 fits : (c : Else-d-ge16) → c.loop-i.value * 16 + c.digit-d.result < 18446744073709551616
 fits c = room c.loop-i.invariant (omega arith) (omega arith)
-
-pub loop-i-init : goal.loop-i-init
-loop-i-init c = begin c.requires
 
 -- a character that is no digit
 pub returns-then-d-ge16 : goal.returns-then-d-ge16

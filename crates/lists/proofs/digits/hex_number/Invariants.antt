@@ -1,10 +1,7 @@
 -- `lists::digits::hex_number` meets its contract: the loop keeps Hex's Reading, and each way out is one of its laws. Assumes nothing.
-use Prim.Native.Nat.{◌+◌, ◌-◌, ◌*◌, ◌<◌}
-use mathlib.Core.Path.{sym, ◌∙◌}
-use native.Mathlib.Omega.{arith}
-use borrow.Author.Rules.{rules}
+use Prim.Native.Nat.{◌-◌}
 use lib.ListN.{length}
-use Rattle.lists.proofs.Hex.{Reading, begin, next, bad, end, room}
+use Rattle.lists.proofs.Hex.{Reading}
 use Rattle.lists.proofs.digits.hex_number.Given as goal
 
 abbrev pub invariant-loop-i : goal.invariant-loop-i

@@ -3,7 +3,6 @@ use Prim.Native.Nat.{ℕ, ◌*◌, ◌%◌, ◌≤◌, ◌<◌}
 use mathlib.Core.Path.{◌≡◌, sym, ap, ◌∙◌}
 use mathlib.Core.Bool.{Bool, not}
 use native.Mathlib.Omega.{arith}
-use borrow.Author.Rules.{rules}
 use borrow.Author.Tests.{lt-ltb, le-ltb}
 use lib.Dec.{ltb}
 use Rattle.words.specs.Format.{Format, format, infinity, quiet, top, magnitude}
@@ -11,7 +10,7 @@ use Rattle.words.specs.Rounding.{bit}
 use Rattle.root.proofs.Words.{held-fine}
 use Rattle.lists.specs.Judge.{marks, exact, root_flags}
 use Rattle.lists.specs.declared.marks.Marks.{Marks}
-use Rattle.lists.proofs.Flags.{below_top, flags-nan, flags-negative, flags-own, flags-rounded, sign_set}
+use Rattle.lists.proofs.Flags.{flags-nan, flags-negative, flags-own, flags-rounded, sign_set}
 use Rattle.lists.proofs.judge.flags_of.Goals as goal
 use Rattle.lists.proofs.judge.flags_of.Goals.{After-size_of-size}
 
@@ -79,9 +78,6 @@ module _ (c : After-size_of-size) where
   rounded z l e =
       flags-rounded f x (held-fine c.args.p c.args.emax c.requires.0) (omega (arith, c.requires.0.small)) (some z) l e
 
-pub size_of-size-requires : goal.size_of-size-requires
-size_of-size-requires c = below_top _ c.marks_of-m.ensures c.requires.1
-
 pub returns-then-size-m : goal.returns-then-size-m
 returns-then-size-m c =
     let k = (goal.at.returns-then-size-m c).After-size_of-size in
@@ -112,23 +108,12 @@ returns-then-x-m c =
     let k = (goal.at.returns-then-x-m c).After-size_of-size in
     infinite k c.if-x-m.true
 
-pub is_exact-requires : goal.is_exact-requires
-is_exact-requires c =
-    let k = (goal.at.is_exact-requires c).After-size_of-size in
-    let k = k in
-    record {
-      held = (c.requires.0, some k c.if-x-eq0.false, below k c.if-m-size.false c.if-size-x.false c.if-x-m.false);
-      root_value = c.requires.2;
-    }
-
 pub returns-then-is_exact : goal.returns-then-is_exact
 returns-then-is_exact c =
     let k = (goal.at.returns-then-is_exact c).After-size_of-size in
-    let k = k in
     sym (rounded k c.if-x-eq0.false (below k c.if-m-size.false c.if-size-x.false c.if-x-m.false) c.is_exact.ensures ∙ ap (λ (b : Bool). bit (not b)) c.if-is_exact.true)
 
 pub returns-else-is_exact : goal.returns-else-is_exact
 returns-else-is_exact c =
     let k = (goal.at.returns-else-is_exact c).After-size_of-size in
-    let k = k in
     sym (rounded k c.if-x-eq0.false (below k c.if-m-size.false c.if-size-x.false c.if-x-m.false) c.is_exact.ensures ∙ ap (λ (b : Bool). bit (not b)) c.if-is_exact.false)

@@ -1,15 +1,14 @@
 -- `lists::line::verdict_at` meets its contract: a line that is not well formed is malformed, any other is held to the judge. Assumes nothing.
-use Prim.Native.Nat.{ℕ, ◌*◌, ◌^◌, ◌<◌}
-use mathlib.Core.Path.{◌≡◌, sym, ap, subst, ◌∙◌}
+use Prim.Native.Nat.{ℕ}
+use mathlib.Core.Path.{◌≡◌, sym, ap, ◌∙◌}
 use mathlib.Core.Bool.{Bool, true, cond}
 use mathlib.Core.List.{List}
-use borrow.Author.Rules.{rules}
-use borrow.Author.Tests.{not-true, not-false}
-use Rattle.words.specs.Format.{Format, format, top}
+use borrow.Author.Tests.{not-false}
+use Rattle.words.specs.Format.{Format, format}
 use Rattle.lists.specs.Judge.{root_judged}
 use Rattle.lists.specs.Lines.{agree, verdict_at}
 use Rattle.lists.specs.declared.line.Verdict.TheVariants.{Agrees, Disagrees}
-use Rattle.lists.proofs.Verdicts.{malformed, held}
+use Rattle.lists.proofs.Verdicts.{held}
 use Rattle.lists.proofs.line.verdict_at.Goals as goal
 use Rattle.lists.proofs.line.verdict_at.Goals.{After-numbers_of-f}
 
@@ -23,23 +22,10 @@ module _ (c : After-numbers_of-f) where
   abbrev l : List ℕ
   l = c.args.s.now
 
-  word : {n : ℕ} → n < 2 ^ (4 * w) → n < 2 * top f
-  word {n} h = subst (λ (z : ℕ). n < z) c.requires.held.1 h
-
   judged : {b : Bool} → c.numbers_of-f.result.ok ≡ true → b ≡ agree (root_judged f c.numbers_of-f.result.operand) f c.numbers_of-f.result.result c.numbers_of-f.result.flags → verdict_at root_judged f w l ≡ cond b Agrees Disagrees
   judged ok answer =
       let e = c.numbers_of-f.ensures in
       held root_judged f w l (sym e.well-formed ∙ ok) (e.operand-is ok) (e.result-is ok) (e.flags-is ok) answer
-
-pub returns-then-not-f : goal.returns-then-not-f
-returns-then-not-f c =
-    let k = (goal.at.returns-then-not-f c).After-numbers_of-f in
-    sym (malformed root_judged (f k) (w k) (l k) (sym c.numbers_of-f.ensures.well-formed ∙ not-true _ c.if-not-f.true))
-
-pub agrees-requires : goal.agrees-requires
-agrees-requires c =
-    let k = (goal.at.agrees-requires c).After-numbers_of-f in
-    (c.requires.held.0, word k c.numbers_of-f.ensures.operand_small, word k c.numbers_of-f.ensures.result-small)
 
 pub returns-then-agrees : goal.returns-then-agrees
 returns-then-agrees c =

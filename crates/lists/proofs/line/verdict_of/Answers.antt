@@ -2,7 +2,6 @@
 use Prim.Native.Nat.{ℕ}
 use mathlib.Core.Path.{sym, ◌∙◌}
 use mathlib.Core.List.{List}
-use borrow.Author.Rules.{rules}
 use Rattle.lists.specs.Judge.{root_judged}
 use Rattle.lists.proofs.Verdicts.{of_four, of-eight, of-sixteen, of_none}
 use Rattle.lists.proofs.line.verdict_of.Goals as goal

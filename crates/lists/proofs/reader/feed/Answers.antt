@@ -3,8 +3,7 @@ use Prim.Native.Nat.{ℕ, ◌+◌, ◌-◌, ◌≤◌}
 use mathlib.Core.Path.{◌≡◌, refl, sym, ap, ◌∙◌}
 use mathlib.Core.List.{List, [], ◌++◌}
 use native.Mathlib.Omega.{arith}
-use borrow.Author.Rules.{rules}
-use lib.ListN.{length, length-map, length-take, length-drop, take, drop}
+use lib.ListN.{length, length-take, length-drop, take, drop}
 use lib.Seq.{take_all}
 use Rattle.lists.specs.Judge.{root_judged}
 use Rattle.lists.specs.Counts.{Totals}

@@ -1,8 +1,7 @@
 -- `lists::reader::finish` meets its contract: the stream's end, by whether bytes of a line are left. Assumes nothing.
-use mathlib.Core.Path.{◌≡◌, sym, ap, ◌∙◌}
+use mathlib.Core.Path.{◌≡◌, ap, ◌∙◌}
 use native.Mathlib.Omega.{arith}
-use borrow.Author.Rules.{rules}
-use lib.ListN.{length, length-map}
+use lib.ListN.{length}
 use Rattle.lists.specs.Counts.{Totals}
 use Rattle.lists.specs.Reader.{totals_of, tally_of}
 use Rattle.lists.specs.declared.tally.Line.{Line}

@@ -1,8 +1,6 @@
 -- `lists::reader::line_end` meets its contract: no newline has been passed. Assumes nothing.
 use Prim.Native.Nat.{◌-◌}
-use native.Mathlib.Omega.{arith}
-use borrow.Author.Rules.{rules}
-use Rattle.lists.proofs.Pieces.{Searched, search-begin, search-next, search-end}
+use Rattle.lists.proofs.Pieces.{Searched}
 use Rattle.lists.proofs.reader.line_end.Given as goal
 
 abbrev pub invariant-loop-end : goal.invariant-loop-end

@@ -1,15 +1,11 @@
 -- `lists::reader::whole_lines` meets its contract: each line that ends is counted where it stands. Assumes nothing.
-use Prim.Native.Nat.{◌+◌, ◌-◌}
-use mathlib.Core.Path.{◌≡◌, refl, sym, ap, ◌∙◌}
+use Prim.Native.Nat.{◌-◌}
+use mathlib.Core.Path.{◌≡◌}
 use mathlib.Core.List.{[]}
-use native.Mathlib.Omega.{arith}
-use borrow.Author.Rules.{rules}
 use lib.ListN.{drop}
 use Rattle.lists.specs.Judge.{root_judged}
-use Rattle.lists.specs.Counts.{Totals}
 use Rattle.lists.specs.Reader.{totals_of, fed, LineEnd}
 use Rattle.lists.proofs.Progress.{keeping}
-use Rattle.lists.proofs.Pieces.{line-ended, rest_plain}
 use Rattle.lists.proofs.reader.whole_lines.Given as goal
 
 abbrev pub invariant-loop-end : goal.invariant-loop-end
