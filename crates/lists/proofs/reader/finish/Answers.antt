@@ -5,7 +5,7 @@ use lib.ListN.{length}
 use Rattle.lists.specs.Counts.{Totals}
 use Rattle.lists.specs.Reader.{totals_of, tally_of}
 use Rattle.lists.specs.declared.tally.Line.{Line}
-use Rattle.lists.proofs.Progress.{finish-empty, finish-line}
+use Rattle.lists.proofs.Progress.{finish-line}
 use Rattle.lists.proofs.reader.finish.Goals as goal
 use Rattle.lists.proofs.reader.finish.Goals.{After-struct_known-1}
 
@@ -20,13 +20,8 @@ module _ (c : After-struct_known-1) where
   sized : length line.bytes ≡ 37
   sized = c.well_formed.0.1.1.1.0.1.1.0.1.0.1
 
-pub returns-then-line-eq0 : goal.returns-then-line-eq0
-returns-then-line-eq0 c =
-    let k = (goal.at.returns-then-line-eq0 c).After-struct_known-1 in
-    c.settled_tally.ensures ∙ ap tally_of (finish-empty (t k) (line k).bytes (line k).held (omega (arith, c.if-line-eq0.true)))
-
 pub returns : goal.returns
 returns c =
     let k = (goal.at.returns c).After-struct_known-1 in
     c.settled_tally-2.ensures
-    ∙ ap tally_of (c.ended_line.ensures ∙ finish-line (t k) (line k).bytes (line k).held (λ z. omega (arith, z, c.if-line-eq0.false)) (sized k))
+    ∙ ap tally_of (c.ended_line.ensures ∙ finish-line (t k) (line k).bytes (line k).held (λ z. omega (arith, z)) (sized k))

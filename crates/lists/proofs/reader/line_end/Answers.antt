@@ -4,4 +4,4 @@ use Rattle.lists.proofs.Pieces.{search-next}
 use Rattle.lists.proofs.reader.line_end.Goals as goal
 
 pub loop-end-preserved : goal.loop-end-preserved
-loop-end-preserved c = search-next c.loop-end.invariant (omega (arith, c.loop-end-test.true)) (λ e. omega (arith, e, c.if-piece-end-eq10.false))
+loop-end-preserved c = search-next c.loop-end.invariant (omega (arith, c.loop-end-test.true)) (λ e. omega (arith, e))
