@@ -1,5 +1,7 @@
 // The C face: each public function under the prefix `igholmaz_`, with the promise of the function
 // that it calls. Words are IEEE 754 interchange bit patterns; nothing is asked of the caller.
+#![tactic(auto)]
+
 ghost use Rattle.std.specs.Prelude.{◌≡◌};
 ghost use Rattle.words.specs.Format.{binary32, binary64, magnitude};
 ghost use Rattle.words.specs.Answers.{answered};

@@ -1,5 +1,5 @@
 -- One line more, by its verdict, one byte more, and the end of the stream. Assumes nothing.
-use Prim.Native.Nat.{ℕ, ◌+◌, min}
+use Prim.Native.Nat.{ℕ, min}
 use mathlib.Core.Path.{◌≡◌, sym, ap, ◌∙◌}
 use mathlib.Core.Bool.{Bool, true, false, cond}
 use mathlib.Core.List.{List, [], ◌∷◌, ◌++◌}

@@ -10,14 +10,16 @@ use lib.Dec.{eqb}
 use lib.ListN.{length, take, length-take}
 use lib.Seq.{take_all, take-take, take-append-le}
 use borrow.Author.Tests.{ne_eqb}
-use Rattle.lists.specs.Judge.{Judge}
+use Rattle.lists.specs.Judge.{Judge, root_judged}
 use Rattle.lists.specs.Lines.{verdict}
 use Rattle.lists.specs.Counts.{newline, last_line, lines_from, lines_of, capped, one_more, is_malformed, is_agreed, is_disagreed, malformed, agrees, disagrees, count, first_line, first_number}
 use Rattle.lists.specs.Counts.{Totals, report_of, report}
-use Rattle.lists.specs.Reader.{Progress, ended_by, ended, fed, nothing, begun, finished}
+use Rattle.lists.specs.Reader.{Progress, ended_by, ended, fed, nothing, begun, finished, line_of, text_of}
+use Rattle.lists.specs.declared.tally.Line.{Line}
 use Rattle.lists.specs.declared.line.Verdict.{Verdict}
 use Rattle.lists.specs.declared.line.Verdict.TheVariants.{Malformed, Agrees, Disagrees}
 use Rattle.lists.proofs.Verdicts.{of_none}
+use Rattle.lists.proofs.Keeping.{text-of-line}
 use Rattle.lists.proofs.Progress.{tallied, keeping, step_by}
 use Rattle.lists.proofs.Splitting.{lines-byte}
 
@@ -40,6 +42,20 @@ ended-cut j t l = elim (dec_lt (length l) 37) [
       ap (λ (v : Verdict). ended_by v t (take 37 l)) (too_long j (take 37 l) (simp length-take (omega arith)))
       ∙ sym (ap (λ (v : Verdict). ended_by v t l) (too_long j l (omega arith)))
 ]
+
+-- a line that disagrees is kept whole, since a longer one is malformed
+pub kept_whole : (a b : Line) (l : List ℕ) → a ≡ line_of [] → b ≡ line_of (take 37 (text_of a ++ l)) → verdict root_judged l ≡ Disagrees → take b.held b.bytes ≡ l
+kept_whole a b l e h d =
+    ap text_of h
+    ∙ text-of-line (take 37 (text_of a ++ l))
+    ∙ ap (λ (z : Line). take 37 (text_of z ++ l)) e
+    ∙ short l d
+  where
+    short : (l : List ℕ) → verdict root_judged l ≡ Disagrees → take 37 l ≡ l
+    short l d = elim (dec_lt (length l) 37) [
+      | yes h ↦ take_all 37 l (omega arith)
+      | no h ↦ let e : Malformed ≡ Disagrees = sym (too_long root_judged l (omega arith)) ∙ d in absurd (cc)
+    ]
 
 pub take-cut : (l m : List ℕ) → take 37 (take 37 l ++ m) ≡ take 37 (l ++ m)
 take-cut l m = elim (dec_lt (length l) 37) [

@@ -45,6 +45,7 @@ fn digit(c: u8) -> u64
 }
 
 // The number that a text of at most 16 characters stands for, if all are digits.
+#[tactic(auto, using(crate::proofs::Hex::bad))]
 pub fn hex_number(s: &[u8]) -> Read
     requires { length s.now ≤ 16 }
     ensures { result ≡ read_number s.now }

@@ -9,6 +9,7 @@ use super::line::{Verdict, verdict_of};
 use super::tally::{Line, Tally};
 
 // The counts after one line more.
+#[tactic(auto, using(crate::proofs::Report::kept_whole), unfolding(crate::specs::Reader::ended))]
 pub fn ended_by(t: Tally, s: &[u8]) -> Tally
     ensures { totals_of result ≡ ended root_judged (totals_of t) s.now }
 {

@@ -55,6 +55,7 @@ pub fn feed(state: State, piece: &[u8]) -> State
 }
 
 // The stream ends: bytes after the last newline, if any, are a line.
+#[tactic(auto, unfolding(crate::specs::Reader::finished))]
 pub fn finish(state: State) -> Tally
     ensures { Finished state result }
 {

@@ -6,7 +6,7 @@ pub const KEPT: usize = 37;
 
 // The bytes of a line, of which the first `held` count.
 #[repr(C)]
-#[derive(Drop)]
+#[derive(Clone, Copy)]
 pub struct Line {
     pub bytes: [u8; KEPT],
     pub held: usize,
@@ -15,7 +15,7 @@ pub struct Line {
 // How many lines were read, agree and are malformed, and the first that disagrees with its number
 // from 1; number 0 if there is none. Counts stop at 2^64 - 1.
 #[repr(C)]
-#[derive(Drop)]
+#[derive(Clone, Copy)]
 pub struct Tally {
     pub lines: u64,
     pub agree: u64,
