@@ -40,6 +40,9 @@ fn sort_from6_32(x: u32, y: u32) -> Sorted
     sort_minus(24, 127, iy)
 }
 
+// A word below this one has its sign clear.
+const SIGNED: u32 = 0x80000000;
+
 // From rule 5 on: y is 1, -1, 2, or 0.5 with the sign of x clear.
 fn sort_from5_32(x: u32, y: u32) -> Sorted
     requires { 0 < y % 2 ^ 31 }
@@ -55,7 +58,7 @@ fn sort_from5_32(x: u32, y: u32) -> Sorted
         return Sorted::Settled(square32(x) as u64);
     }
     if y == 0x3f000000 {
-        if x < 0x80000000 {
+        if x < SIGNED {
             return Sorted::Settled(root32(x) as u64);
         }
     }

@@ -81,6 +81,9 @@ fn huge(ix: u32, down: bool) -> f64
     }
 }
 
+// The high word of 2^64, the |y| above which the power is that of `huge`.
+const HUGE_Y: u32 = 0x43f00000;
+
 // An open power. Above |y| = 2^31 it over- or underflows, unless x is close to one.
 fn open(x: u64, y: u64, negative: bool) -> u64
     requires { OpenPair Words.binary64 x y }
@@ -91,7 +94,7 @@ fn open(x: u64, y: u64, negative: bool) -> u64
     let ix = (ax >> 32) as u32;
     let iy = ((y & 0x7fffffffffffffff) >> 32) as u32;
     if iy > 0x41e00000 {
-        if iy > 0x43f00000 {
+        if iy > HUGE_Y {
             return to_word64(huge(ix, y >= 0x8000000000000000));
         }
         if ix < 0x3fefffff {

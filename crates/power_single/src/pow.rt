@@ -58,6 +58,9 @@ fn with_sign(w: u32, negative: bool) -> u32
     }
 }
 
+// The word of 2^27, the |y| above which only an x close to one is walked with.
+const HUGE_Y: u32 = 0x4d000000;
+
 // An open power. Above |y| = 2^27 it over- or underflows, unless x is close to one.
 fn open(x: u32, y: u32, negative: bool) -> u32
     requires { OpenPair Words.binary32 x y }
@@ -66,7 +69,7 @@ fn open(x: u32, y: u32, negative: bool) -> u32
     let sn = sign(negative);
     let ix = x & 0x7fffffff;
     let iy = y & 0x7fffffff;
-    if iy > 0x4d000000 {
+    if iy > HUGE_Y {
         if ix < 0x3f7ffff8 {
             if y >= 0x80000000 {
                 return to_word32(over_flow(sn));

@@ -15,12 +15,12 @@ returns-then-y-eq3212836864 c = ap told_settled c.reciprocal32.ensures ∙ rule-
 pub returns-then-y-eq1073741824 : goal.returns-then-y-eq1073741824
 returns-then-y-eq1073741824 c = ap told_settled c.square32.ensures ∙ rule-to-two told_settled told_open binary32 _ _ c.if-y-eq1065353216.false c.if-y-eq3212836864.false c.if-y-eq1073741824.true
 
-pub returns-then-x-lt2147483648 : goal.returns-then-x-lt2147483648
-returns-then-x-lt2147483648 c =
+pub returns-then-x-lt-SIGNED : goal.returns-then-x-lt-SIGNED
+returns-then-x-lt-SIGNED c =
     ap told_settled c.root32.ensures ∙
-    rule-to-half told_settled told_open binary32 _ _ c.if-y-eq1065353216.false c.if-y-eq3212836864.false c.if-y-eq1073741824.false c.if-y-eq1056964608.true c.if-x-lt2147483648.true
+    rule-to-half told_settled told_open binary32 _ _ c.if-y-eq1065353216.false c.if-y-eq3212836864.false c.if-y-eq1073741824.false c.if-y-eq1056964608.true c.if-x-lt-SIGNED.true
 
 pub returns : goal.returns
 returns c =
     c.sort_from6_32.ensures ∙
-    past5 told_settled told_open binary32 _ _ c.if-y-eq1065353216.false c.if-y-eq3212836864.false c.if-y-eq1073741824.false (elim c.if-y-eq1056964608.branch [ goal.then-y-eq1056964608+else-x-lt2147483648 w ↦ inl w.if-x-lt2147483648.false | goal.else-y-eq1056964608 w ↦ inr w.if-y-eq1056964608.false ])
+    past5 told_settled told_open binary32 _ _ c.if-y-eq1065353216.false c.if-y-eq3212836864.false c.if-y-eq1073741824.false (elim c.if-y-eq1056964608.branch [ goal.then-y-eq1056964608+else-x-lt-SIGNED w ↦ inl w.if-x-lt-SIGNED.false | goal.else-y-eq1056964608 w ↦ inr w.if-y-eq1056964608.false ])

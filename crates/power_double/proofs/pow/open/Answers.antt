@@ -21,7 +21,7 @@ above c = let y = c.args.y in lt-ltb 0x41e00000 (y % 2 ^ 63 / 2 ^ 32) (omega (ar
 reaches : (c : Joined-iy-gt1105199104) → Reaches double (c.args.x % 2 ^ 63 / 2 ^ 32) (c.args.y % 2 ^ 63 / 2 ^ 32)
 reaches c =
     let y = c.args.y in
-    elim c.if-iy-gt1105199104.branch [ goal.then-iy-gt1105199104+else-iy-gt1139802112+else-ix-lt1072693247+else-ix-gt1072693248 w ↦ inr (le-ltb _ _ (rw size64 at w.if-iy-gt1139802112.false), le-ltb _ _ (rw size64 at w.if-ix-lt1072693247.false), le-ltb _ _ (rw size64 at w.if-ix-gt1072693248.false)) | goal.else-iy-gt1105199104 w ↦ inl (le-ltb 0x41e00000 (y % 2 ^ 63 / 2 ^ 32) (omega (arith, size64 y, w.if-iy-gt1105199104.false))) ]
+    elim c.if-iy-gt1105199104.branch [ goal.then-iy-gt1105199104+else-iy-gt-HUGE_Y+else-ix-lt1072693247+else-ix-gt1072693248 w ↦ inr (le-ltb _ _ (rw size64 at w.if-iy-gt-HUGE_Y.false), le-ltb _ _ (rw size64 at w.if-ix-lt1072693247.false), le-ltb _ _ (rw size64 at w.if-ix-gt1072693248.false)) | goal.else-iy-gt1105199104 w ↦ inl (le-ltb 0x41e00000 (y % 2 ^ 63 / 2 ^ 32) (omega (arith, size64 y, w.if-iy-gt1105199104.false))) ]
 
 -- the numbers on the way there
 way : (c : Joined-iy-gt1105199104) → let c = c.args in
@@ -35,10 +35,10 @@ overflow_cast-ix c = rw size64 (omega arith)
 pub overflow_cast-iy : goal.overflow_cast-iy
 overflow_cast-iy c = rw size64 (omega arith)
 
-pub returns-then-iy-gt1139802112 : goal.returns-then-iy-gt1139802112
+pub returns-then-iy-gt-HUGE_Y : goal.returns-then-iy-gt-HUGE_Y
 unfolding open_of
-returns-then-iy-gt1139802112 c =
-    simp (c.to_word64.ensures, c.huge.ensures, above (goal.at.returns-then-iy-gt1139802112 c).Then-iy-gt1105199104, lt-ltb _ _ (rw size64 at c.if-iy-gt1139802112.true), size64)
+returns-then-iy-gt-HUGE_Y c =
+    simp (c.to_word64.ensures, c.huge.ensures, above (goal.at.returns-then-iy-gt-HUGE_Y c).Then-iy-gt1105199104, lt-ltb _ _ (rw size64 at c.if-iy-gt-HUGE_Y.true), size64)
 
 -- x below 1: by the sign of y
 pub returns-then-y-ge9223372036854775808 : goal.returns-then-y-ge9223372036854775808
@@ -49,7 +49,7 @@ returns-then-y-ge9223372036854775808 c =
       c.over_flow.ensures,
       c.sign-sn.ensures,
       above (goal.at.returns-then-y-ge9223372036854775808 c).Then-iy-gt1105199104,
-      le-ltb _ _ (rw size64 at c.if-iy-gt1139802112.false),
+      le-ltb _ _ (rw size64 at c.if-iy-gt-HUGE_Y.false),
       lt-ltb _ _ (rw size64 at c.if-ix-lt1072693247.true),
       le-leb _ _ c.if-y-ge9223372036854775808.true,
     )
@@ -62,7 +62,7 @@ returns-then-ix-lt1072693247 c =
       c.under_flow.ensures,
       c.sign-sn.ensures,
       above (goal.at.returns-then-ix-lt1072693247 c).Then-iy-gt1105199104,
-      le-ltb _ _ (rw size64 at c.if-iy-gt1139802112.false),
+      le-ltb _ _ (rw size64 at c.if-iy-gt-HUGE_Y.false),
       lt-ltb _ _ (rw size64 at c.if-ix-lt1072693247.true),
       lt-leb _ _ c.if-y-ge9223372036854775808.false,
     )
@@ -76,7 +76,7 @@ returns-then-y-ge9223372036854775808-2 c =
       c.under_flow-then-y-ge9223372036854775808-2.ensures,
       c.sign-sn.ensures,
       above (goal.at.returns-then-y-ge9223372036854775808-2 c).Then-iy-gt1105199104,
-      le-ltb _ _ (rw size64 at c.if-iy-gt1139802112.false),
+      le-ltb _ _ (rw size64 at c.if-iy-gt-HUGE_Y.false),
       le-ltb _ _ (rw size64 at c.if-ix-lt1072693247.false),
       lt-ltb _ _ (rw size64 at c.if-ix-gt1072693248.true),
       le-leb _ _ c.if-y-ge9223372036854775808-2.true,
@@ -90,7 +90,7 @@ returns-then-ix-gt1072693248 c =
       c.over_flow-then-ix-gt1072693248.ensures,
       c.sign-sn.ensures,
       above (goal.at.returns-then-ix-gt1072693248 c).Then-iy-gt1105199104,
-      le-ltb _ _ (rw size64 at c.if-iy-gt1139802112.false),
+      le-ltb _ _ (rw size64 at c.if-iy-gt-HUGE_Y.false),
       le-ltb _ _ (rw size64 at c.if-ix-lt1072693247.false),
       lt-ltb _ _ (rw size64 at c.if-ix-gt1072693248.true),
       lt-leb _ _ c.if-y-ge9223372036854775808-2.false,
@@ -112,13 +112,13 @@ pub returns : goal.returns
 unfolding open_of
 returns c =
     elim c.if-iy-gt1105199104.branch [
-      | goal.then-iy-gt1105199104+else-iy-gt1139802112+else-ix-lt1072693247+else-ix-gt1072693248 w ↦ simp (
+      | goal.then-iy-gt1105199104+else-iy-gt-HUGE_Y+else-ix-lt1072693247+else-ix-gt1072693248 w ↦ simp (
         c.finish.ensures,
         c.product.ensures,
         c.log_of.ensures,
         size64,
         lt-ltb _ _ (rw size64 at w.if-iy-gt1105199104.true),
-        le-ltb _ _ (rw size64 at w.if-iy-gt1139802112.false),
+        le-ltb _ _ (rw size64 at w.if-iy-gt-HUGE_Y.false),
         le-ltb _ _ (rw size64 at w.if-ix-lt1072693247.false),
         le-ltb _ _ (rw size64 at w.if-ix-gt1072693248.false),
       )

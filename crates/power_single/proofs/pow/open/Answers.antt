@@ -10,25 +10,25 @@ use Rattle.chain.proofs.Widths.{known32}
 use Rattle.chain.proofs.Numbers.{walked}
 use Rattle.power.proofs.Words.{size32}
 use Rattle.power_single.proofs.pow.open.Goals as goal
-use Rattle.power_single.proofs.pow.open.Goals.{Joined-iy-gt1291845632, Then-iy-gt1291845632}
+use Rattle.power_single.proofs.pow.open.Goals.{Joined-iy-gt-HUGE_Y, Then-iy-gt-HUGE_Y}
 
 -- no size is above `must`
 none : (y : ℕ) → ltb 0x80000000 (y % 2 ^ 31) ≡ false
 none y = le-ltb 0x80000000 (y % 2 ^ 31) (omega arith)
 
 -- the tests on |y| and |x|, as the definition asks them
-huge : (c : Then-iy-gt1291845632) → ltb 0x4d000000 (c.args.y % 2 ^ 31) ≡ true
-huge c = let y = c.args.y in lt-ltb 0x4d000000 (y % 2 ^ 31) (omega (arith, size32 y, c.if-iy-gt1291845632.true))
+huge : (c : Then-iy-gt-HUGE_Y) → ltb 0x4d000000 (c.args.y % 2 ^ 31) ≡ true
+huge c = let y = c.args.y in lt-ltb 0x4d000000 (y % 2 ^ 31) (omega (arith, size32 y, c.if-iy-gt-HUGE_Y.true))
 
 -- ---- the chain's end
 
-reaches : (c : Joined-iy-gt1291845632) → Reaches single (c.args.x % 2 ^ 31) (c.args.y % 2 ^ 31)
+reaches : (c : Joined-iy-gt-HUGE_Y) → Reaches single (c.args.x % 2 ^ 31) (c.args.y % 2 ^ 31)
 reaches c =
     let y = c.args.y in
-    elim c.if-iy-gt1291845632.branch [ goal.then-iy-gt1291845632+else-ix-lt1065353208+else-ix-gt1065353223 w ↦ inr (none y, le-ltb _ _ (rw size32 at w.if-ix-lt1065353208.false), le-ltb _ _ (rw size32 at w.if-ix-gt1065353223.false)) | goal.else-iy-gt1291845632 w ↦ inl (le-ltb 0x4d000000 (y % 2 ^ 31) (omega (arith, size32 y, w.if-iy-gt1291845632.false))) ]
+    elim c.if-iy-gt-HUGE_Y.branch [ goal.then-iy-gt-HUGE_Y+else-ix-lt1065353208+else-ix-gt1065353223 w ↦ inr (none y, le-ltb _ _ (rw size32 at w.if-ix-lt1065353208.false), le-ltb _ _ (rw size32 at w.if-ix-gt1065353223.false)) | goal.else-iy-gt-HUGE_Y w ↦ inl (le-ltb 0x4d000000 (y % 2 ^ 31) (omega (arith, size32 y, w.if-iy-gt-HUGE_Y.false))) ]
 
 -- the numbers on the way there
-way : (c : Joined-iy-gt1291845632) → let c = c.args in
+way : (c : Joined-iy-gt-HUGE_Y) → let c = c.args in
     Walked single (of_bits binary32 c.y) (log_of single (c.x % 2 ^ 31) (c.y % 2 ^ 31)) c.negative
 way c =
     simp div-one at (walked single known32 c.args.x c.args.y c.args.negative c.requires (simp div-one (reaches c)))
@@ -42,7 +42,7 @@ returns-then-y-ge2147483648 c =
       c.over_flow.ensures,
       c.sign-sn.ensures,
       div-one,
-      huge (goal.at.returns-then-y-ge2147483648 c).Then-iy-gt1291845632,
+      huge (goal.at.returns-then-y-ge2147483648 c).Then-iy-gt-HUGE_Y,
       none c.args.y,
       lt-ltb _ _ (rw size32 at c.if-ix-lt1065353208.true),
       le-leb _ _ c.if-y-ge2147483648.true,
@@ -56,7 +56,7 @@ returns-then-ix-lt1065353208 c =
       c.under_flow.ensures,
       c.sign-sn.ensures,
       div-one,
-      huge (goal.at.returns-then-ix-lt1065353208 c).Then-iy-gt1291845632,
+      huge (goal.at.returns-then-ix-lt1065353208 c).Then-iy-gt-HUGE_Y,
       none c.args.y,
       lt-ltb _ _ (rw size32 at c.if-ix-lt1065353208.true),
       lt-leb _ _ c.if-y-ge2147483648.false,
@@ -71,7 +71,7 @@ returns-then-y-ge2147483648-2 c =
       c.under_flow-then-y-ge2147483648-2.ensures,
       c.sign-sn.ensures,
       div-one,
-      huge (goal.at.returns-then-y-ge2147483648-2 c).Then-iy-gt1291845632,
+      huge (goal.at.returns-then-y-ge2147483648-2 c).Then-iy-gt-HUGE_Y,
       none c.args.y,
       le-ltb _ _ (rw size32 at c.if-ix-lt1065353208.false),
       lt-ltb _ _ (rw size32 at c.if-ix-gt1065353223.true),
@@ -86,7 +86,7 @@ returns-then-ix-gt1065353223 c =
       c.over_flow-then-ix-gt1065353223.ensures,
       c.sign-sn.ensures,
       div-one,
-      huge (goal.at.returns-then-ix-gt1065353223 c).Then-iy-gt1291845632,
+      huge (goal.at.returns-then-ix-gt1065353223 c).Then-iy-gt-HUGE_Y,
       none c.args.y,
       le-ltb _ _ (rw size32 at c.if-ix-lt1065353208.false),
       lt-ltb _ _ (rw size32 at c.if-ix-gt1065353223.true),
@@ -94,31 +94,31 @@ returns-then-ix-gt1065353223 c =
     )
 
 pub float_from_bits-y : goal.float_from_bits-y
-float_from_bits-y c = float_word binary32 c.args.y (way (goal.at.float_from_bits-y c).Joined-iy-gt1291845632).exponent
+float_from_bits-y c = float_word binary32 c.args.y (way (goal.at.float_from_bits-y c).Joined-iy-gt-HUGE_Y).exponent
 
 pub log_of-requires : goal.log_of-requires
-log_of-requires c = simp size32 (mod-lt c.args.x (omega arith), (way (goal.at.log_of-requires c).Joined-iy-gt1291845632).logarithm.1)
+log_of-requires c = simp size32 (mod-lt c.args.x (omega arith), (way (goal.at.log_of-requires c).Joined-iy-gt-HUGE_Y).logarithm.1)
 
 pub product-requires : goal.product-requires
-product-requires c = (way (goal.at.product-requires c).Joined-iy-gt1291845632).exponent
+product-requires c = (way (goal.at.product-requires c).Joined-iy-gt-HUGE_Y).exponent
 
 pub finish-requires : goal.finish-requires
-finish-requires c = simp (c.product.ensures, c.log_of.ensures, size32) (way (goal.at.finish-requires c).Joined-iy-gt1291845632).finish
+finish-requires c = simp (c.product.ensures, c.log_of.ensures, size32) (way (goal.at.finish-requires c).Joined-iy-gt-HUGE_Y).finish
 
 pub returns : goal.returns
 unfolding open_of
 returns c =
-    elim c.if-iy-gt1291845632.branch [
-      | goal.then-iy-gt1291845632+else-ix-lt1065353208+else-ix-gt1065353223 w ↦ simp (
+    elim c.if-iy-gt-HUGE_Y.branch [
+      | goal.then-iy-gt-HUGE_Y+else-ix-lt1065353208+else-ix-gt1065353223 w ↦ simp (
         c.finish.ensures,
         c.product.ensures,
         c.log_of.ensures,
         size32,
         div-one,
-        lt-ltb _ _ (rw size32 at w.if-iy-gt1291845632.true),
+        lt-ltb _ _ (rw size32 at w.if-iy-gt-HUGE_Y.true),
         none c.args.y,
         le-ltb _ _ (rw size32 at w.if-ix-lt1065353208.false),
         le-ltb _ _ (rw size32 at w.if-ix-gt1065353223.false),
       )
-      | goal.else-iy-gt1291845632 w ↦ simp (c.finish.ensures, c.product.ensures, c.log_of.ensures, size32, div-one, le-ltb _ _ (rw size32 at w.if-iy-gt1291845632.false))
+      | goal.else-iy-gt-HUGE_Y w ↦ simp (c.finish.ensures, c.product.ensures, c.log_of.ensures, size32, div-one, le-ltb _ _ (rw size32 at w.if-iy-gt-HUGE_Y.false))
     ]
