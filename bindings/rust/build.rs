@@ -1,4 +1,4 @@
-//! Finds the archive and has it linked: in IGHOLMAZ_LIB_DIR, else where `rt staticlib igholmaz` writes it.
+//! Finds the archive and has it linked: in IGHOLMAZ_LIB_DIR, else where `tools/build` writes it.
 
 use std::path::PathBuf;
 
@@ -11,7 +11,7 @@ fn main() {
     let archive = dir.join("libigholmaz.a");
     println!("cargo::rerun-if-changed={}", archive.display());
     if !archive.is_file() {
-        println!("cargo::error={} is missing: run `rt staticlib igholmaz` at the top of the repository, or say in IGHOLMAZ_LIB_DIR which folder has it", archive.display());
+        println!("cargo::error={} is missing: run `tools/build` at the top of the repository, or say in IGHOLMAZ_LIB_DIR which folder has it", archive.display());
         return;
     }
     println!("cargo::rustc-link-search=native={}", dir.display());
