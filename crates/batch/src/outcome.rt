@@ -9,7 +9,7 @@ pub const MOST: usize = 4096;
 
 // A refusal number, and how many results were written.
 #[repr(C)]
-#[derive(Drop)]
+#[derive(Clone, Copy)]
 pub struct Batch {
     pub number: u32,
     pub count: usize,

@@ -9,7 +9,7 @@ use words::refusal::DONE;
 // A refusal number, which is 0; whether the pair is open; an open result's sign, true for negative;
 // a settled result's word, an f32's in the low half.
 #[repr(C)]
-#[derive(Drop)]
+#[derive(Clone, Copy)]
 pub struct SortedPower {
     pub number: u32,
     pub open: bool,

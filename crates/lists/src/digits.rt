@@ -3,7 +3,7 @@ ghost use Rattle.std.specs.Prelude.{◌≡◌, ◌+◌, ◌≤◌, ◌<◌, leng
 ghost use Rattle.lists.specs.Digits.{digit_of, among_of, read_number, none, found};
 
 // Whether a number was read, and which.
-#[derive(Drop)]
+#[derive(Clone, Copy)]
 pub struct Read {
     pub ok: bool,
     pub value: u64,

@@ -18,7 +18,7 @@ const INEXACT: u64 = 1;
 const INVALID: u64 = 16;
 
 // A result's word and its flags.
-#[derive(Drop)]
+#[derive(Clone, Copy)]
 pub struct Judged {
     pub word: u64,
     pub flags: u64,

@@ -10,7 +10,7 @@ use super::digits::hex_number;
 use super::judge::judge;
 use super::marks::{marks_of, size_of};
 
-#[derive(Drop)]
+#[derive(Clone, Copy)]
 pub enum Verdict {
     Malformed,
     Agrees,
@@ -51,7 +51,7 @@ fn verdict_at(s: &[u8], w: usize, p: u32, emax: u32) -> Verdict
 }
 
 // Whether a line is well formed, and then its three numbers.
-#[derive(Drop)]
+#[derive(Clone, Copy)]
 struct Numbers {
     ok: bool,
     operand: u64,

@@ -7,7 +7,7 @@ ghost use Rattle.lists.specs.Judge.{marks};
 use words::weights::{field, infinity_of};
 
 // Infinity, the NaN that the library answers, which is the least quiet one, and the weight of the sign.
-#[derive(Drop)]
+#[derive(Clone, Copy)]
 pub struct Marks {
     pub infinity: u64,
     pub quiet: u64,

@@ -8,7 +8,7 @@ use super::tally::{Line, Tally};
 
 // What was found in the lines that ended, and the one that did not.
 #[repr(C)]
-#[derive(Drop)]
+#[derive(Clone, Copy)]
 pub struct State {
     pub tally: Tally,
     pub line: Line,
@@ -68,7 +68,7 @@ pub fn finish(state: State) -> Tally
 }
 
 // The tally after the lines that end, and where the first begins that does not.
-#[derive(Drop)]
+#[derive(Clone, Copy)]
 struct Lines {
     tally: Tally,
     from: usize,

@@ -4,7 +4,7 @@ ghost use Rattle.words.specs.Format.{format};
 ghost use Rattle.words.specs.Rounding.{Held};
 ghost use Rattle.power.specs.Numbers.{whole, odd};
 
-#[derive(Drop)]
+#[derive(Clone, Copy)]
 pub struct Kind {
     pub whole: bool,
     pub odd: bool,

@@ -35,7 +35,7 @@ fn is_clear(x: u64, y: u64) -> bool
 }
 
 // A pair to walk with and its flag, 0 or 1: the pair itself, or 1.5 to the 1.5 in its place.
-#[derive(Drop)]
+#[derive(Clone, Copy)]
 pub struct Entry {
     pub flag: u64,
     pub x: u64,
@@ -79,7 +79,7 @@ fn sorted(xs: &[u64], ys: &[u64], flags: &mut [u64], ws: &mut [u64], es: &mut [u
 // ---- the logarithm
 
 // s in its parts, its interval, and n as a float.
-#[derive(Drop)]
+#[derive(Clone, Copy)]
 pub struct Start {
     pub s: f64,
     pub hi: f64,
@@ -214,7 +214,7 @@ fn to_products(
 // ---- 2 to that
 
 // What is left of p_h, n + 4096, and the flag: set too where |z| is 1024 or more, or n is not sure.
-#[derive(Drop)]
+#[derive(Clone, Copy)]
 pub struct Step {
     pub hi: f64,
     pub e: u64,
@@ -274,7 +274,7 @@ fn halves(hs: &mut [f64], ls: &mut [f64])
 }
 
 // The word of the power, and the flag: set too where the word is no normal number's.
-#[derive(Drop)]
+#[derive(Clone, Copy)]
 pub struct End {
     pub w: u64,
     pub flag: u64,

@@ -60,7 +60,7 @@ pub fn fate_of(p: Pair) -> Fate
 }
 
 // The whole number nearest to z, by its size and as a float.
-#[derive(Drop)]
+#[derive(Clone, Copy)]
 pub struct Whole {
     pub size: u32,
     pub float: f64,
@@ -82,7 +82,7 @@ fn nearest_to(j: u32) -> Whole
 }
 
 // What is left of p_h, n + 4096, and whether both are sure.
-#[derive(Drop)]
+#[derive(Clone, Copy)]
 pub struct Turn {
     pub hi: f64,
     pub e: u64,

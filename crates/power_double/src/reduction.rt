@@ -9,7 +9,7 @@ ghost use Rattle.power_double.specs.Parts.{reduction};
 use power::unbiased::unbiased;
 
 // The word of z, the place k of the constants in pairs, and n + 1076.
-#[derive(Drop)]
+#[derive(Clone, Copy)]
 pub struct Reduced {
     pub ix: u64,
     pub k: usize,

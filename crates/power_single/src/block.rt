@@ -35,7 +35,7 @@ fn is_clear(x: u32, y: u32) -> bool
 }
 
 // A pair to walk with and its flag, 0 or 1: the pair itself, or 1.5 to the 1.5 in its place.
-#[derive(Drop)]
+#[derive(Clone, Copy)]
 pub struct Entry {
     pub flag: u32,
     pub x: u32,
@@ -79,7 +79,7 @@ fn sorted(xs: &[u32], ys: &[u32], flags: &mut [u32], ws: &mut [u32], es: &mut [u
 // ---- the logarithm
 
 // s in its parts, its interval, and n as a float.
-#[derive(Drop)]
+#[derive(Clone, Copy)]
 pub struct Start {
     pub s: f32,
     pub hi: f32,
@@ -214,7 +214,7 @@ fn to_products(
 // ---- 2 to that
 
 // What is left of p_h, n + 512, and the flag: set too where |z| is 128 or more, or n is not sure.
-#[derive(Drop)]
+#[derive(Clone, Copy)]
 pub struct Step {
     pub hi: f32,
     pub e: u32,
@@ -274,7 +274,7 @@ fn halves(hs: &mut [f32], ls: &mut [f32])
 }
 
 // The word of the power, and the flag: set too where the word is no normal number's.
-#[derive(Drop)]
+#[derive(Clone, Copy)]
 pub struct End {
     pub w: u32,
     pub flag: u32,

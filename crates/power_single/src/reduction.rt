@@ -9,7 +9,7 @@ ghost use Rattle.power_single.specs.Parts.{reduction};
 use power::unbiased::unbiased;
 
 // The word of z, the place k of the constants in pairs, and n + 151.
-#[derive(Drop)]
+#[derive(Clone, Copy)]
 pub struct Reduced {
     pub ix: u32,
     pub k: usize,

@@ -11,10 +11,12 @@ use std::io::Print;
 // last, and a failed read or write ends the program with its error.
 fn piece(rt: &HostRuntime) -> io::Result<bool> {
     let mut input = [0u8; 16384];
-    let n = stdio::read_full(rt, &mut input)?;
+    let got = stdio::read_full(rt, &mut input);
+    let n = got.count;
     let mut out = [0u8; 8192];
     let m = stream::single::powf_bytes(&input[..n], &mut out);
     rt.write_all(&out[..m])?;
+    got.ended?;
     Ok(n == 16384)
 }
 

@@ -1,2 +1,3 @@
 pub mod ControlPoints
 pub mod Reciprocals
+pub mod Entries

@@ -8,7 +8,7 @@ ghost use Rattle.root.specs.Root.{lifted, whole, exponent_of};
 ghost use Rattle.root.specs.Engine.{Shifts, odd_z};
 
 // w * 2^(1-p) * 4^half
-#[derive(Drop)]
+#[derive(Clone, Copy)]
 pub struct Parts {
     pub w: u64,
     pub half: i32,

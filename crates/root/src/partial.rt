@@ -11,7 +11,7 @@ use words::weights::infinity_of;
 
 // A refusal number, Q, the left-over, and the rounds that were run.
 #[repr(C)]
-#[derive(Drop)]
+#[derive(Clone, Copy)]
 pub struct PartialRoot {
     pub number: u32,
     pub digits: u64,

@@ -2,7 +2,7 @@
 ghost use Rattle.root.specs.Engine.{Asked, Rounds};
 
 // Q and the left-over.
-#[derive(Drop)]
+#[derive(Clone, Copy)]
 pub struct Digits {
     pub digits: u64,
     pub left: u64,

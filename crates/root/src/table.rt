@@ -10,7 +10,7 @@ use super::rounds::Digits;
 use recip::reciprocal;
 
 // m * 2^n, and the place of m's first nine digits in the table
-#[derive(Drop)]
+#[derive(Clone, Copy)]
 struct Operand {
     m: u64,
     n: u64,
@@ -68,7 +68,7 @@ fn table_rounds(m: u64, odd: u64, place: u64) -> Digits
 }
 
 // Q and the left-over of all rounds, and half, which is E + 1022
-#[derive(Drop)]
+#[derive(Clone, Copy)]
 struct AllRounds {
     digits: u64,
     left: u64,

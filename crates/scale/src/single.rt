@@ -10,7 +10,7 @@ use super::clamp::clamp;
 use words::answer::{Answer, answer_of};
 
 // y times 2^n is what is left to do.
-#[derive(Drop)]
+#[derive(Clone, Copy)]
 pub struct Stepped32 {
     pub y: f32,
     pub n: i32,

@@ -12,7 +12,7 @@ const HIDDEN64: u64 = 0x10000000000000;
 const FINER: u64 = 0x20000000;
 
 // The first 54 digits of the root, and its field in an f64.
-#[derive(Drop)]
+#[derive(Clone, Copy)]
 struct Root {
     digits: u64,
     field: u64,

@@ -1,7 +1,7 @@
 // Standard input and output for the programs. A call that a signal interrupted is made again, and so is one that
 // would have had to wait on a descriptor that does not block: at once, so that waiting there keeps a core busy.
 // Any other that fails is told in one line on standard error. `read_full` alone tells nothing and makes no call
-// again: it returns the error of the read that failed.
+// again: it returns what came and the error of the read that failed.
 #![tactic(auto)]
 
 ghost use Rattle.std.specs.Counts.{IsPrefixLen};
@@ -14,7 +14,7 @@ use std::io;
 use std::io::{ErrorKind, Print, Read};
 
 // What one read brought: `count` bytes, none at the end of the input and none when it failed.
-#[derive(Drop)]
+#[derive(Clone, Copy)]
 pub struct Input {
     pub failed: bool,
     pub count: usize,
@@ -58,21 +58,31 @@ pub fn write(rt: &HostRuntime, buf: &[u8], cannot: &[u8]) -> bool {
     true
 }
 
-// Reads until buf is full or the input ends, and returns how many bytes it put at the start of buf. After an error
-// some of buf may be overwritten.
-pub fn read_full(rt: &HostRuntime, buf: &mut [u8]) -> io::Result<usize>
-    ensures { ReadsAtMost result buf.new }
+// What reading until a buffer is full brought: `count` bytes, and the error that ended it, if one did.
+#[derive(Clone, Copy)]
+pub struct Filled {
+    pub count: usize,
+    pub ended: io::Result<()>,
+}
+
+// Reads until buf is full, the input ends or a read fails. The bytes stand at the start of buf.
+pub fn read_full(rt: &HostRuntime, buf: &mut [u8]) -> Filled
+    ensures { IsPrefixLen result.count buf.new }
 {
     let mut input = rt.stdin();
     let mut done = 0;
+    let mut ended = Ok(());
     while done < buf.len() {
-        let n = input.read(&mut buf[done..])?;
-        if n == 0 {
-            break;
+        match input.read(&mut buf[done..]) {
+            Ok(0) => break,
+            Ok(n) => done += n,
+            Err(e) => {
+                ended = Err(e);
+                break;
+            }
         }
-        done += n;
     }
-    Ok(done)
+    Filled { count: done, ended }
 }
 
 // What a read answers that need not be made again.

@@ -26,7 +26,7 @@ fn has_arguments(rt: &HostRuntime) -> bool {
 }
 
 // What one read changes: whether it failed, whether there may be more, and the state after it.
-#[derive(Drop)]
+#[derive(Clone, Copy)]
 struct Turn {
     failed: bool,
     more: bool,

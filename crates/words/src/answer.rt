@@ -6,7 +6,7 @@ use super::refusal::DONE;
 
 // A refusal number and the result's word; an f32's word stands in the low half.
 #[repr(C)]
-#[derive(Drop)]
+#[derive(Clone, Copy)]
 pub struct Answer {
     pub number: u32,
     pub word: u64,
