@@ -3,82 +3,60 @@
 // one.
 #![tactic(auto)]
 
-ghost use Rattle.std.specs.Prelude.{◌≤◌, length};
-
-mod double;
+mod answer;
 mod name;
 mod number;
 mod operand;
-mod print;
-mod single;
+mod question;
+mod wrong;
 
-use name::{Name, name_of};
+use answer::Answer;
+use name::{Name, Width};
+use question::answered;
 use std::env::{Env, FillError};
 use std::io;
+use wrong::{USAGE, Wrong};
 
-// How many arguments a question of a name has, the program's own name among them; 0 for a name
-// that is none.
-fn arguments_of(name: Name) -> usize {
-    match name {
-        Name::Unknown => 0,
-        Name::Fabsf | Name::Fabsd | Name::Sqrtf | Name::Sqrtd => 3,
-        _ => 4,
-    }
-}
-
-fn answer(rt: &HostRuntime, name: Name, a: &[u8], b: &[u8]) -> io::Result<()> {
-    match name {
-        Name::Fabsf => single::fabs(rt, a),
-        Name::Fabsd => double::fabs(rt, a),
-        Name::Sqrtf => single::sqrt(rt, a),
-        Name::Sqrtd => double::sqrt(rt, a),
-        Name::Scalbnf => single::scalbn(rt, a, b),
-        Name::Scalbnd => double::scalbn(rt, a, b),
-        Name::PartialSqrtf => single::partial_sqrt(rt, a, b),
-        Name::PartialSqrtd => double::partial_sqrt(rt, a, b),
-        Name::SortPowf => single::sort_pow(rt, a, b),
-        Name::SortPowd => double::sort_pow(rt, a, b),
-        Name::Powf => single::pow(rt, a, b),
-        Name::Powd => double::pow(rt, a, b),
-        Name::Unknown => print::usage(rt, b"ask: no such name\n"),
-    }
-}
-
-// How many arguments the program was started with, its own name among them.
+// How many arguments the program was started with, its own name among them. Under a bound `Env` in place
+// of `HostRuntime` the check would count more of the C library as assumed than the arguments.
 fn arg_count(rt: &HostRuntime) -> usize {
-    for i in 0..usize::MAX {
-        if let Err(FillError::NotPresent) = rt.arg(i, &mut []) {
-            return i;
-        }
-    }
-    usize::MAX
+    (0..usize::MAX)
+        .find(|i| matches!(rt.arg(*i, &mut []), Err(FillError::NotPresent)))
+        .unwrap_or(usize::MAX)
 }
 
-// Puts argument i at the start of buf and returns its length, or 0 where it is missing or longer than buf.
-fn arg(rt: &HostRuntime, i: usize, buf: &mut [u8]) -> usize
-    ensures { result ≤ length buf.new }
-{
+// Argument i, put at the start of buf; no text where it is missing or longer than buf.
+fn arg<'a>(rt: &HostRuntime, i: usize, buf: &'a mut [u8]) -> &'a [u8] {
     match rt.arg(i, buf) {
-        Ok(n) => n,
-        Err(_) => 0,
+        Ok(n) => &buf[..n],
+        Err(_) => &[],
+    }
+}
+
+// The answer to the question that the arguments are.
+fn asked(rt: &HostRuntime) -> Result<Answer, Wrong> {
+    let count = arg_count(rt);
+    if count < 2 {
+        return Err(Wrong::NoQuestion);
+    }
+    let mut text = [0u8; 32];
+    let Name { function, width } = Name::try_from(arg(rt, 1, &mut text))?;
+    if count - 2 != function.operands() {
+        return Err(Wrong::OperandCount);
+    }
+    let mut first = [0u8; 32];
+    let a = arg(rt, 2, &mut first);
+    let mut second = [0u8; 32];
+    let b = arg(rt, 3, &mut second);
+    match width {
+        Width::Single => answered::<f32>(function, a, b),
+        Width::Double => answered::<f64>(function, a, b),
     }
 }
 
 fn main(rt: HostRuntime) -> io::Result<()> {
-    let count = arg_count(&rt);
-    if count < 2 {
-        return print::usage(&rt, b"ask: a question is wanted\n");
+    match asked(&rt) {
+        Ok(answer) => println!(rt; "{answer}"),
+        Err(wrong) => print!(rt; "ask: {wrong}\n{USAGE}"),
     }
-    let mut text = [0u8; 32];
-    let n = arg(&rt, 1, &mut text);
-    let name = name_of(&text[..n]);
-    let wanted = arguments_of(name);
-    if wanted > 0 && count != wanted {
-        return print::usage(&rt, b"ask: not as many operands as the name takes\n");
-    }
-    let mut first = [0u8; 32];
-    let a = arg(&rt, 2, &mut first);
-    let mut second = [0u8; 32];
-    let b = arg(&rt, 3, &mut second);
-    answer(&rt, name, &first[..a], &second[..b])
 }

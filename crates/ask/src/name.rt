@@ -1,79 +1,56 @@
-// The names of the functions that can be asked.
-ghost use Rattle.std.specs.Prelude.{◌≡◌};
-ghost use Rattle.ask.specs.Names.{same_bytes};
+// The names of the functions that can be asked: what is asked, and the width's letter.
+use super::wrong::Wrong;
 
 #[derive(Clone, Copy)]
-pub enum Name {
-    Fabsf,
-    Fabsd,
-    Scalbnf,
-    Scalbnd,
-    Sqrtf,
-    Sqrtd,
-    PartialSqrtf,
-    PartialSqrtd,
-    SortPowf,
-    SortPowd,
-    Powf,
-    Powd,
-    Unknown,
+pub enum Function {
+    Fabs,
+    Scalbn,
+    Sqrt,
+    PartialSqrt,
+    SortPow,
+    Pow,
 }
 
-// Whether two texts are the same.
-fn same(a: &[u8], b: &[u8]) -> bool
-    ensures { result ≡ same_bytes a.now b.now }
-{
-    let n = a.len();
-    if n != b.len() {
-        return false;
-    }
-    let mut i = 0;
-    while i < n {
-        if a[i] != b[i] {
-            return false;
+impl Function {
+    // How many operands it takes.
+    pub fn operands(self) -> usize {
+        match self {
+            Function::Fabs | Function::Sqrt => 1,
+            _ => 2,
         }
-        i += 1;
     }
-    true
 }
 
-// Which name a text is.
-pub fn name_of(s: &[u8]) -> Name {
-    if same(s, b"fabsf") {
-        return Name::Fabsf;
+#[derive(Clone, Copy)]
+pub enum Width {
+    Single,
+    Double,
+}
+
+#[derive(Clone, Copy)]
+pub struct Name {
+    pub function: Function,
+    pub width: Width,
+}
+
+impl TryFrom<&[u8]> for Name {
+    type Error = Wrong;
+
+    fn try_from(s: &[u8]) -> Result<Name, Wrong> {
+        let (stem, width) = match s {
+            [stem @ .., b'f'] => (stem, Width::Single),
+            [stem @ .., b'd'] => (stem, Width::Double),
+            _ => return Err(Wrong::NoSuchName),
+        };
+        let function = match stem {
+            b"fabs" => Function::Fabs,
+            b"scalbn" => Function::Scalbn,
+            b"sqrt" => Function::Sqrt,
+            b"partial_sqrt" => Function::PartialSqrt,
+            b"sort_pow" => Function::SortPow,
+            b"pow" => Function::Pow,
+            _ => return Err(Wrong::NoSuchName),
+        };
+        Ok(Name { function, width })
     }
-    if same(s, b"fabsd") {
-        return Name::Fabsd;
-    }
-    if same(s, b"scalbnf") {
-        return Name::Scalbnf;
-    }
-    if same(s, b"scalbnd") {
-        return Name::Scalbnd;
-    }
-    if same(s, b"sqrtf") {
-        return Name::Sqrtf;
-    }
-    if same(s, b"sqrtd") {
-        return Name::Sqrtd;
-    }
-    if same(s, b"partial_sqrtf") {
-        return Name::PartialSqrtf;
-    }
-    if same(s, b"partial_sqrtd") {
-        return Name::PartialSqrtd;
-    }
-    if same(s, b"sort_powf") {
-        return Name::SortPowf;
-    }
-    if same(s, b"sort_powd") {
-        return Name::SortPowd;
-    }
-    if same(s, b"powf") {
-        return Name::Powf;
-    }
-    if same(s, b"powd") {
-        return Name::Powd;
-    }
-    Name::Unknown
 }

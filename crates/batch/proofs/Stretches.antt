@@ -1,37 +1,23 @@
--- A stretch looked through from its start: while nothing is found, a property holds at each place so far, for any property and any sign of a find. Assumes nothing.
-use mathlib.Core.Path.{◌≡◌, subst}
-use Prim.Native.Nat.{ℕ, ◌+◌, ◌-◌, ◌≤◌, ◌<◌, min}
-use native.Mathlib.Nat.{lt_of_lt_of_le}
+-- Where a stretch of a batch stands. Assumes nothing.
+use Prim.Native.Nat.{ℕ, ◌+◌, ◌-◌, ◌*◌, ◌≤◌, ◌<◌, min}
+use mathlib.Core.Path.{◌≡◌}
 use native.Mathlib.Omega.{arith}
-use native.Mathlib.Decide.{dec_lt}
-use Rattle.batch.specs.Stretches.{Through}
+use Rattle.std.proofs.Common.{nat_cmp}
+use Rattle.std.proofs.lemmas.Grind.{common_steps, div_ceil_times}
+use Rattle.std.specs.Int.{div_ceil}
+use Rattle.std.specs.Ordering.{ord_min}
 
--- up to i: where nothing is found, P holds
-pub record Looked (P : ℕ → Type 0) (from : ℕ) (nothing : Type 0) (i : ℕ) : Type 0 where
-  pub holds : nothing → Through from i P
+-- each stretch of m of them begins before n
+pub begins : (n m k : ℕ) → m ≡ div_ceil n 64 → k < m → k * 64 < n
+begins n m k d h = omega (arith, d, div_ceil_times n 64 (omega arith))
 
-pub look : {P : ℕ → Type 0} {from : ℕ} {nothing : Type 0} → Looked P from nothing from
-look {P} {from} = record { holds = λ n j a b. absurd (apart j a b) }
-  where
-    apart : (j : ℕ) → from ≤ j → j < from → ⊥
-    apart j a b = omega arith
-
-pub look-on : {P : ℕ → Type 0} {from i : ℕ} {before after : Type 0} → Looked P from before i → (after → before) → (after → P i) → Looked P from after (i + 1)
-look-on {P} {from} {i} p k q = record { holds = λ n j a b. elim (dec_lt j i) [ yes l ↦ p.holds (k n) j a l | no l ↦ subst P (last j l b) (q n) ] }
-  where
-    last : (j : ℕ) → ¬ (j < i) → j < i + 1 → i ≡ j
-    last j l b = omega arith
-
-pub looked : {P : ℕ → Type 0} {from to i : ℕ} {nothing : Type 0} → Looked P from nothing i → to ≤ i → nothing → Through from to P
-looked p h n j a b = p.holds n j a (lt_of_lt_of_le b h)
-
--- where a block ends that begins at i or, for want of pairs, before it
-pub record Block (n i e : ℕ) : Type 0 where
-  pub wide : 64 ≤ e
-  pub before : e - 64 ≤ i
-  pub past : i < e
+-- the stretch k of n elements ends at e
+pub record Stretch (n k e : ℕ) : Type 0 where
+  pub next : min ((k + 1) * 64) n ≡ e
+  pub wide : k * 64 ≤ e
   pub within : e ≤ n
-  pub long : e - (e - 64) ≡ 64
 
-pub block_at : (n i e : ℕ) → 64 ≤ n → i < n → e ≡ min (i + 64) n → Block n i e
-block_at n i e l h q = record { wide = omega arith; before = omega arith; past = omega arith; within = omega arith; long = omega arith }
+pub stretch_at : (n k r : ℕ) → k * 64 < n → r ≡ ord_min nat_cmp 64 (n - k * 64) → Stretch n k (k * 64 + r)
+stretch_at n k r h q =
+    let s : r ≡ min 64 (n - k * 64) = grind (arith, common_steps) in
+    record { next = omega (arith, s); wide = omega arith; within = omega (arith, s) }

@@ -3,7 +3,9 @@
 #![tactic(auto)]
 
 pub mod digits;
-pub mod double;
+pub mod each;
 pub mod outcome;
-pub mod single;
+pub mod powers;
+pub mod roots;
+pub mod scalings;
 pub mod stretch;

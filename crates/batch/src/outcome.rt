@@ -1,13 +1,13 @@
 // What a batch answers, and when it refuses: document 01, "Refusal numbers".
 ghost use Rattle.std.specs.Prelude.{◌≡◌};
-ghost use Rattle.batch.specs.Batches.{refusal, answered};
+ghost use Rattle.batch.specs.Batches.{laid, number_in, refusal};
 
-use words::refusal::{DONE, LENGTHS_DIFFER, TOO_LONG};
+use words::refusal::{DONE, Refusal};
 
 // The most elements that a batch takes.
 pub const MOST: usize = 4096;
 
-// A refusal number, and how many results were written.
+// A batch's result as C sees it, where a Result cannot go: a refusal number, and how many results were written.
 #[repr(C)]
 #[derive(Clone, Copy)]
 pub struct Batch {
@@ -15,23 +15,33 @@ pub struct Batch {
     pub count: usize,
 }
 
-// The refusal number, of whether all slices have one length and of the length of the results.
-pub fn refusal_of(same: bool, n: usize) -> u32
-    ensures { result ≡ refusal same n }
-{
-    if same {
-        if n > MOST { TOO_LONG } else { DONE }
-    } else {
-        LENGTHS_DIFFER
+impl From<Result<usize, Refusal>> for Batch {
+    ghost from_gives = { λ r b. b ≡ laid r };
+
+    fn from(r: Result<usize, Refusal>) -> Self {
+        match r {
+            Ok(count) => Batch {
+                number: DONE,
+                count,
+            },
+            Err(refusal) => Batch {
+                number: refusal.number(),
+                count: 0,
+            },
+        }
     }
 }
 
-// The answer of a batch of n results: all of them are counted, or none.
-pub fn answer_of(number: u32, n: usize) -> Batch
-    ensures { result ≡ answered number n }
+// Whether a batch is taken, of whether all slices have one length and of the length of the results.
+pub fn fit(same: bool, n: usize) -> Result<(), Refusal>
+    ensures { number_in result ≡ refusal same n }
 {
-    if number == DONE {
-        return Batch { number, count: n };
+    if !same {
+        return Err(Refusal::LengthsDiffer);
     }
-    Batch { number, count: 0 }
+    if n > MOST {
+        Err(Refusal::TooLong)
+    } else {
+        Ok(())
+    }
 }

@@ -29,7 +29,7 @@ same : {A : Type 0} {a r s : A} → r ≡ a → s ≡ a → r ≡ s
 same p q = p ∙ sym q
 
 -- an answer of the sorting is fixed by what it tells
-told_same : (r s : Sorted) → told r ≡ told s → r ≡ s
+told_same : (r s : Sorted ℕ) → told r ≡ told s → r ≡ s
 told_same (Settled v) (Settled w) e = ap (λ (t : Told). Settled t.word) e
 told_same (Open b) (Open c) e = ap (λ (t : Told). Open t.negative) e
 told_same (Settled v) (Open c) e = absurd (subst T (ap (λ (t : Told). t.settled) e) tt)
@@ -61,10 +61,10 @@ partial-sqrtf-agrees x k r s = same
 pub partial-sqrtd-agrees : (x k : ℕ) (r s : PartialRoot) → r ≡ partial_root binary64 x k → s ≡ partial_root binary64 x k → r ≡ s
 partial-sqrtd-agrees x k r s = same
 
-pub sort-powf-agrees : (x y : ℕ) (r s : Sorted) → told r ≡ sorted told_settled told_open Ieee.binary32 x y → told s ≡ sorted told_settled told_open Ieee.binary32 x y → r ≡ s
+pub sort-powf-agrees : (x y : ℕ) (r s : Sorted ℕ) → told r ≡ sorted told_settled told_open Ieee.binary32 x y → told s ≡ sorted told_settled told_open Ieee.binary32 x y → r ≡ s
 sort-powf-agrees x y r s p q = told_same r s (same p q)
 
-pub sort-powd-agrees : (x y : ℕ) (r s : Sorted) → told r ≡ sorted told_settled told_open Ieee.binary64 x y → told s ≡ sorted told_settled told_open Ieee.binary64 x y → r ≡ s
+pub sort-powd-agrees : (x y : ℕ) (r s : Sorted ℕ) → told r ≡ sorted told_settled told_open Ieee.binary64 x y → told s ≡ sorted told_settled told_open Ieee.binary64 x y → r ≡ s
 sort-powd-agrees x y r s p q = told_same r s (same p q)
 
 pub powf-agrees : (x y r s : ℕ) → r ≡ pow32 x y → s ≡ pow32 x y → r ≡ s

@@ -18,9 +18,15 @@ ghost use Rattle.lists.specs.Reader.{Started, Fed, Finished};
 use batch::outcome::Batch;
 use lists::reader::State;
 use lists::tally::Tally;
-use root::partial::PartialRoot;
-use sorting::{SortedPower, laid_out};
+use pow::pow::Pow;
+use power::sort::sort_pow;
+use root::digits::root_digits;
+use root::partial::{PartialRoot, partial_root};
+use root::root::Root;
+use scale::scaling::Scale;
+use sorting::SortedPower;
 use words::answer::Answer;
+use words::width::Width;
 
 mod sorting;
 
@@ -28,154 +34,154 @@ mod sorting;
 pub extern "C" fn igholmaz_fabsf(x: u32) -> u32
     ensures { result ≡ magnitude binary32 x }
 {
-    words::fabs::fabsf(x)
+    f32::fabs(x)
 }
 
 #[unsafe(no_mangle)]
 pub extern "C" fn igholmaz_fabsd(x: u64) -> u64
     ensures { result ≡ magnitude binary64 x }
 {
-    words::fabs::fabsd(x)
+    f64::fabs(x)
 }
 
 #[unsafe(no_mangle)]
 pub extern "C" fn igholmaz_scalbnf(x: u32, n: i32) -> Answer
     ensures { result ≡ answered (scaled binary32 x n) }
 {
-    scale::single::scalbnf(x, n)
+    Answer::from(f32::scaled(x, n) as u64)
 }
 
 #[unsafe(no_mangle)]
 pub extern "C" fn igholmaz_scalbnd(x: u64, n: i32) -> Answer
     ensures { result ≡ answered (scaled binary64 x n) }
 {
-    scale::double::scalbnd(x, n)
+    Answer::from(f64::scaled(x, n))
 }
 
 #[unsafe(no_mangle)]
 pub extern "C" fn igholmaz_sqrtf(x: u32) -> Answer
     ensures { result ≡ answered (root_word binary32 x) }
 {
-    root::single::sqrtf(x)
+    Answer::from(f32::root(x) as u64)
 }
 
 #[unsafe(no_mangle)]
 pub extern "C" fn igholmaz_sqrtd(x: u64) -> Answer
     ensures { result ≡ answered (root_word binary64 x) }
 {
-    root::double::sqrtd(x)
+    Answer::from(f64::root(x))
 }
 
 #[unsafe(no_mangle)]
 pub extern "C" fn igholmaz_sqrtf_digits(x: u32) -> Answer
     ensures { result ≡ answered (root_word binary32 x) }
 {
-    root::single::sqrtf_digits(x)
+    Answer::from(root_digits::<f32>(x) as u64)
 }
 
 #[unsafe(no_mangle)]
 pub extern "C" fn igholmaz_sqrtd_digits(x: u64) -> Answer
     ensures { result ≡ answered (root_word binary64 x) }
 {
-    root::double::sqrtd_digits(x)
+    Answer::from(root_digits::<f64>(x))
 }
 
 #[unsafe(no_mangle)]
 pub extern "C" fn igholmaz_partial_sqrtf(x: u32, rounds: u32) -> PartialRoot
     ensures { result ≡ partial_root binary32 x rounds }
 {
-    root::single::partial_sqrtf(x, rounds)
+    PartialRoot::from(partial_root::<f32>(x, rounds))
 }
 
 #[unsafe(no_mangle)]
 pub extern "C" fn igholmaz_partial_sqrtd(x: u64, rounds: u32) -> PartialRoot
     ensures { result ≡ partial_root binary64 x rounds }
 {
-    root::double::partial_sqrtd(x, rounds)
+    PartialRoot::from(partial_root::<f64>(x, rounds))
 }
 
 #[unsafe(no_mangle)]
 pub extern "C" fn igholmaz_sqrtf_batch(xs: &[u32], out: &mut [u32]) -> Batch
     ensures { Mapped (root_word binary32) xs.now out.old out.new result }
 {
-    batch::single::sqrtf_batch(xs, out)
+    Batch::from(batch::roots::sqrt_batch::<f32>(xs, out))
 }
 
 #[unsafe(no_mangle)]
 pub extern "C" fn igholmaz_sqrtd_batch(xs: &[u64], out: &mut [u64]) -> Batch
     ensures { Mapped (root_word binary64) xs.now out.old out.new result }
 {
-    batch::double::sqrtd_batch(xs, out)
+    Batch::from(batch::roots::sqrt_batch::<f64>(xs, out))
 }
 
 #[unsafe(no_mangle)]
 pub extern "C" fn igholmaz_sqrtf_digits_batch(xs: &[u32], out: &mut [u32]) -> Batch
     ensures { Mapped (root_word binary32) xs.now out.old out.new result }
 {
-    batch::digits::sqrtf_digits_batch(xs, out)
+    Batch::from(batch::digits::sqrt_digits_batch::<f32>(xs, out))
 }
 
 #[unsafe(no_mangle)]
 pub extern "C" fn igholmaz_sqrtd_digits_batch(xs: &[u64], out: &mut [u64]) -> Batch
     ensures { Mapped (root_word binary64) xs.now out.old out.new result }
 {
-    batch::digits::sqrtd_digits_batch(xs, out)
+    Batch::from(batch::digits::sqrt_digits_batch::<f64>(xs, out))
 }
 
 #[unsafe(no_mangle)]
 pub extern "C" fn igholmaz_scalbnf_batch(xs: &[u32], ns: &[i32], out: &mut [u32]) -> Batch
     ensures { Zipped (scaled binary32) xs.now ns.now out.old out.new result }
 {
-    batch::single::scalbnf_batch(xs, ns, out)
+    Batch::from(batch::scalings::scalbn_batch::<f32>(xs, ns, out))
 }
 
 #[unsafe(no_mangle)]
 pub extern "C" fn igholmaz_scalbnd_batch(xs: &[u64], ns: &[i32], out: &mut [u64]) -> Batch
     ensures { Zipped (scaled binary64) xs.now ns.now out.old out.new result }
 {
-    batch::double::scalbnd_batch(xs, ns, out)
+    Batch::from(batch::scalings::scalbn_batch::<f64>(xs, ns, out))
 }
 
 #[unsafe(no_mangle)]
 pub extern "C" fn igholmaz_sort_powf(x: u32, y: u32) -> SortedPower
     ensures { result ≡ laid (sorted told_settled told_open Ieee.binary32 x y) }
 {
-    laid_out(power::single::sort_powf(x, y))
+    SortedPower::from(sort_pow::<f32>(x, y))
 }
 
 #[unsafe(no_mangle)]
 pub extern "C" fn igholmaz_powf(x: u32, y: u32) -> u32
     ensures { result ≡ pow32 x y }
 {
-    power_single::pow::powf(x, y)
+    f32::pow(x, y)
 }
 
 #[unsafe(no_mangle)]
 pub extern "C" fn igholmaz_sort_powd(x: u64, y: u64) -> SortedPower
     ensures { result ≡ laid (sorted told_settled told_open Ieee.binary64 x y) }
 {
-    laid_out(power::double::sort_powd(x, y))
+    SortedPower::from(sort_pow::<f64>(x, y))
 }
 
 #[unsafe(no_mangle)]
 pub extern "C" fn igholmaz_powd(x: u64, y: u64) -> u64
     ensures { result ≡ pow64 x y }
 {
-    power_double::pow::powd(x, y)
+    f64::pow(x, y)
 }
 
 #[unsafe(no_mangle)]
 pub extern "C" fn igholmaz_powf_batch(xs: &[u32], ys: &[u32], out: &mut [u32]) -> Batch
     ensures { Zipped pow32 xs.now ys.now out.old out.new result }
 {
-    batch::single::powf_batch(xs, ys, out)
+    Batch::from(batch::powers::pow_batch::<f32>(xs, ys, out))
 }
 
 #[unsafe(no_mangle)]
 pub extern "C" fn igholmaz_powd_batch(xs: &[u64], ys: &[u64], out: &mut [u64]) -> Batch
     ensures { Zipped pow64 xs.now ys.now out.old out.new result }
 {
-    batch::double::powd_batch(xs, ys, out)
+    Batch::from(batch::powers::pow_batch::<f64>(xs, ys, out))
 }
 
 #[unsafe(no_mangle)]

@@ -1,10 +1,11 @@
 // The sorting's answer as C sees it, where an enum cannot go.
 ghost use Rattle.std.specs.Prelude.{◌≡◌};
-ghost use Rattle.power.specs.Sorting.{told};
+ghost use Rattle.power.specs.Sorting.{told_by};
 ghost use Rattle.igholmaz.specs.Face.{laid};
 
 use power::answer::Sorted;
 use words::refusal::DONE;
+use words::word::Word;
 
 // A refusal number, which is 0; whether the pair is open; an open result's sign, true for negative;
 // a settled result's word, an f32's in the low half.
@@ -17,21 +18,23 @@ pub struct SortedPower {
     pub word: u64,
 }
 
-pub fn laid_out(s: Sorted) -> SortedPower
-    ensures { result ≡ laid (told s) }
-{
-    match s {
-        Sorted::Settled(w) => SortedPower {
-            number: DONE,
-            open: false,
-            negative: false,
-            word: w,
-        },
-        Sorted::Open(minus) => SortedPower {
-            number: DONE,
-            open: true,
-            negative: minus,
-            word: 0,
-        },
+impl<W: Word> From<Sorted<W>> for SortedPower {
+    ghost from_gives = { λ s p. p ≡ laid (told_by W.number s) };
+
+    fn from(s: Sorted<W>) -> SortedPower {
+        match s {
+            Sorted::Settled(w) => SortedPower {
+                number: DONE,
+                open: false,
+                negative: false,
+                word: w.wide(),
+            },
+            Sorted::Open(minus) => SortedPower {
+                number: DONE,
+                open: true,
+                negative: minus,
+                word: 0,
+            },
+        }
     }
 }

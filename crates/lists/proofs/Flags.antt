@@ -4,7 +4,7 @@ use mathlib.Core.Path.{◌≡◌, refl, sym, ap, subst, ◌∙◌}
 use mathlib.Core.Bool.{Bool, true, false, not, ◌&&◌, ◌||◌}
 use native.Mathlib.Omega.{arith}
 use native.Mathlib.Decide.{dec_lt}
-use native.Mathlib.Nat.{mod-eq_of_lt, mod-eq-sub-mod, mod-le, mul-add-mod_self_right, lt_trans, zero-add, mul-div_cancel, mul-le-mul, mul-le-mul_left, div-mul-le_self, div-lt_iff_lt-mul}
+use native.Mathlib.Nat.{mod-eq_of_lt, mod-le, mul-add-mod_self_right, lt_trans, zero-add, mul-le-mul, mul-le-mul_left, div-mul-le_self, div-lt_iff_lt-mul}
 use lib.Dec.{leb, ltb, eqb}
 use lib.Pow.{pow_pos, pow_mono, pow-add}
 use borrow.Author.Tests.{lt-ltb, le-ltb, le-leb, lt-leb, eq-eqb}
@@ -18,24 +18,8 @@ use Rattle.root.proofs.Engine.{powers, four-pow}
 use Rattle.root.proofs.Operands.{four-pos}
 use Rattle.root.proofs.Words.{Fine, full, root-positive}
 use Rattle.root.proofs.Sentences.{operand-range, root-digits, root-exact, root-exact-only, root-units, root-normal, scaled, squared}
-use Rattle.lists.proofs.Squares.{eqb_same, ends, tested}
-use Rattle.lists.specs.Judge.{marks, invalid, overflow, underflow, exact, inexact, exact_square, root_flags}
-use Rattle.lists.specs.declared.marks.Marks.{Marks}
-
--- ---- a word without its sign
-
-pub size_low : (t x : ℕ) → x < t → x ≡ x % t
-size_low t x h = sym (mod-eq_of_lt h)
-
-pub size-high : (t x : ℕ) → x < 2 * t → t ≤ x → x - t ≡ x % t
-size-high t x s h = sym (mod-eq-sub-mod h ∙ mod-eq_of_lt (small t x s h))
-  where
-    small : (t x : ℕ) → x < 2 * t → t ≤ x → x - t < t
-    small t x s h = omega arith
-
--- the code's marks are the format's
-pub below_top : (f : Format) {x : ℕ} {m : Marks} → m ≡ marks f → x < 2 * top f → x < 2 * m.top
-below_top f {x} e h = subst (λ (m : Marks). x < 2 * m.top) (sym e) h
+use Rattle.lists.proofs.Squares.{swap, cancel, eqb_same, ends, tested}
+use Rattle.lists.specs.Judge.{invalid, overflow, underflow, exact, inexact, exact_square, root_flags}
 
 -- ---- the four facts laid out
 
@@ -115,6 +99,26 @@ module _ (f : Format) (x : ℕ) where
     | no a ↦ flags-negative (omega (arith, z)) (omega arith) ∙ ap (λ (b : Bool). 16 * bit b) (le-ltb 0 (magnitude f x) (omega (arith, z)))
   ]
 
+  -- ---- the same, by the code's tests
+
+  pub flags_signalling : infinity f < magnitude f x → magnitude f x < quiet f → root_flags f x ≡ 16
+  flags_signalling h q = flags-nan h ∙ ap (λ (b : Bool). 16 * bit b) (lt-ltb (magnitude f x) (quiet f) q)
+
+  pub flags_quiet : infinity f < magnitude f x → quiet f ≤ magnitude f x → root_flags f x ≡ 0
+  flags_quiet h q = flags-nan h ∙ ap (λ (b : Bool). 16 * bit b) (le-ltb (magnitude f x) (quiet f) q)
+
+  pub flags_nothing : x ≡ 0 → root_flags f x ≡ 0
+  flags_nothing e = flags-own (omega arith) (λ some. omega arith)
+
+  pub flags_infinite : x ≡ infinity f → root_flags f x ≡ 0
+  flags_infinite e = flags-own (omega arith) (λ some. omega arith)
+
+  pub flags_minus : magnitude f x ≤ infinity f → magnitude f x < x → ¬ (magnitude f x ≡ 0) → root_flags f x ≡ 16
+  flags_minus h l z = flags-negative h (sign_set (top f) x l) ∙ ap (λ (b : Bool). 16 * bit b) (lt-ltb 0 (magnitude f x) (omega (arith, z)))
+
+-- so the flags of every operand but a positive finite one
+pub ruleset kinds = (flags_signalling, flags_quiet, flags-zero, flags_minus, flags_nothing, flags_infinite)
+
 -- ---- a positive finite operand: its root is exact where the significand's square is W with p - 1 zeros after it
 
 module _ (f : Format) (x : ℕ) (g : Fine f) (small : f.digits ≤ 60) (some : 0 < x) (below : x < infinity f) where
@@ -144,9 +148,6 @@ module _ (f : Format) (x : ℕ) (g : Fine f) (small : f.digits ≤ 60) (some : 0
   exact-is = eqb_same (S * S) (W * hid f) (square (units f (root_word f x))) (exact_square f x)
       (λ e. square-is ∙ ap (λ (z : ℕ). z * 4 ^ H) e ∙ operand-square)
       (λ e. cancel (S * S) (W * hid f) (4 ^ H) (four-pos H) (sym square-is ∙ e ∙ sym operand-square))
-    where
-      cancel : (a b h : ℕ) → 0 < h → a * h ≡ b * h → a ≡ b
-      cancel a b h l e = sym (mul-div_cancel a l) ∙ ap (λ (z : ℕ). z / h) e ∙ mul-div_cancel b l
 
   -- the significand stands in the root's word
   pub significand-read : hid f + root_word f x % hid f ≡ S
@@ -168,34 +169,41 @@ module _ (f : Format) (x : ℕ) (g : Fine f) (small : f.digits ≤ 60) (some : 0
   S-small q = omega (arith, (root-digits f x g small some below).1, pow_mono {i = p} {j = 53} q)
 
   -- the code's test of the two, in words of 64 digits
-  pub exact-tested : (k : ℕ) → p ≤ 53 → k ≡ (p - 1) / 2
-      → (eqb (S / 2 ^ k * 2 ^ k % 2 ^ 64) S && eqb (S / 2 ^ k * (S / 2 ^ k)) (W * 2 ^ (p - 1 - k - k) % 2 ^ 64)) ≡ exact f x
-  exact-tested k q e =
-      (λ i. eqb (mod-eq_of_lt front i) S && eqb (S / 2 ^ k * (S / 2 ^ k)) (mod-eq_of_lt back i))
-      ∙ tested S W k (p - 1 - k - k)
-      ∙ ap (λ (n : ℕ). eqb (S * S) (W * 2 ^ n)) (zeros p k e)
-      ∙ exact-is
-    where
-      front : S / 2 ^ k * 2 ^ k < 2 ^ 64
-      front = omega (arith, div-mul-le_self S (2 ^ k), S-small q)
+  module _ {s d : ℕ} (s-is : s ≡ S) (d-is : d ≡ p) (few : p ≤ 53) where
+    abbrev k : ℕ
+    k = (d - 1) / 2
 
-      back : W * 2 ^ (p - 1 - k - k) < 2 ^ 64
-      back = omega (arith, mul-le-mul_left W (pow_mono {i = p - 1 - k - k} {j = 1} (omega arith)), (operand-range f x g small some below).1, pow_mono {i = p + 1} {j = 54} (omega arith))
+    abbrev t : ℕ
+    t = s / 2 ^ k
 
-      zeros : (n k : ℕ) → k ≡ (n - 1) / 2 → n - 1 - k - k + (k + k) ≡ n - 1
-      zeros n k e = omega arith
+    pub front-small : t * t < 2 ^ 64
+    front-small = omega (arith, mul-le-mul t-small t-small)
+      where
+        split : (n : ℕ) → n ≡ n - (n - 1) / 2 + (n - 1) / 2
+        split n = omega arith
 
-  pub front-small : (k : ℕ) → p ≤ 53 → k ≡ (p - 1) / 2 → S / 2 ^ k * (S / 2 ^ k) < 2 ^ 64
-  front-small k q e = omega (arith, mul-le-mul t-small t-small)
-    where
-      split : (n k : ℕ) → k ≡ (n - 1) / 2 → n ≡ n - k + k
-      split n k e = omega arith
+        s-below : s < 2 ^ (d - k) * 2 ^ k
+        s-below = subst (λ (n : ℕ). s < n) (ap (λ (n : ℕ). 2 ^ n) (sym d-is ∙ split d) ∙ pow-add 2 (d - k) k) (omega (arith, s-is, (root-digits f x g small some below).1))
 
-      t-below : S / 2 ^ k < 2 ^ (p - k)
-      t-below = (div-lt_iff_lt-mul (pow_pos k)).1 (subst (λ (z : ℕ). S < z) (ap (λ (n : ℕ). 2 ^ n) (split p k e) ∙ pow-add 2 (p - k) k) (root-digits f x g small some below).1)
+        t-small : t ≤ 2 ^ 27
+        t-small = omega (arith, (div-lt_iff_lt-mul (pow_pos k)).1 s-below, pow_mono {i = d - k} {j = 27} (omega arith))
 
-      t-small : S / 2 ^ k ≤ 2 ^ 27
-      t-small = omega (arith, t-below, pow_mono {i = p - k} {j = 27} (omega arith))
+    pub exact-tested : {w : ℕ} → w ≡ W → (eqb (t * 2 ^ k % 2 ^ 64) s && eqb (t * t) (w * 2 ^ (d - 1 - k - k) % 2 ^ 64)) ≡ exact f x
+    exact-tested {w} w-is =
+        (λ i. eqb (mod-eq_of_lt front i) s && eqb (t * t) (mod-eq_of_lt back i))
+        ∙ tested s w k (d - 1 - k - k)
+        ∙ ap (λ (n : ℕ). eqb (s * s) (w * 2 ^ n)) (zeros d)
+        ∙ (λ i. eqb (s-is i * s-is i) (w-is i * 2 ^ (d-is i - 1)))
+        ∙ exact-is
+      where
+        front : t * 2 ^ k < 2 ^ 64
+        front = omega (arith, div-mul-le_self s (2 ^ k), s-is, S-small few)
+
+        back : w * 2 ^ (d - 1 - k - k) < 2 ^ 64
+        back = omega (arith, w-is, mul-le-mul_left w (pow_mono {i = d - 1 - k - k} {j = 1} (omega arith)), (operand-range f x g small some below).1, pow_mono {i = p + 1} {j = 54} (omega arith))
+
+        zeros : (n : ℕ) → n - 1 - (n - 1) / 2 - (n - 1) / 2 + ((n - 1) / 2 + (n - 1) / 2) ≡ n - 1
+        zeros n = omega arith
 
   is_positive : positive f x ≡ true
   is_positive k = lt-ltb 0 x some k && lt-ltb x (infinity f) below k
@@ -239,13 +247,7 @@ module _ (f : Format) (x : ℕ) (g : Fine f) (small : f.digits ≤ 60) (some : 0
       twice n q r a b = omega (arith, a, b)
 
       back : (m t h k : ℕ) → m ≡ t * h → k ≡ h * h → t * t * k ≡ m * m
-      back m t h k a b = ap (λ (z : ℕ). t * t * z) b ∙ swap t h ∙ sym (ap (λ (z : ℕ). z * z) a)
-        where
-          swap : (t h : ℕ) → t * t * (h * h) ≡ t * h * (t * h)
-          swap t h = omega arith
+      back m t h k a b = ap (λ (z : ℕ). t * t * z) b ∙ sym (swap t h) ∙ sym (ap (λ (z : ℕ). z * z) a)
 
       half : (s h w q : ℕ) → q ≡ 4 * h → 2 * s * (2 * s) ≡ q * w → s * s ≡ w * h
       half s h w q a b = omega (arith, ap (λ (z : ℕ). z * w) a, b)
-
-      cancel : (a b h : ℕ) → 0 < h → a * h ≡ b * h → a ≡ b
-      cancel a b h l e = sym (mul-div_cancel a l) ∙ ap (λ (z : ℕ). z / h) e ∙ mul-div_cancel b l

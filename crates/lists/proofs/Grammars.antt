@@ -6,10 +6,10 @@ use mathlib.Core.List.{List, [], ◌∷◌, ◌++◌}
 use native.Mathlib.Omega.{arith}
 use native.Mathlib.Numerals.{add-one}
 use native.Mathlib.Decide.{dec_lt}
-use lib.Dec.{ltb, eqb}
+use lib.Dec.{ltb}
 use lib.ListN.{length, take, drop, get_or, length-append, length-drop}
 use lib.Seq.{take_at, get_or_at, split_at, drop-drop, drop-append-add, get_or-drop}
-use borrow.Author.Tests.{lt-ltb, ltb-true, eq-eqb, eqb-true}
+use borrow.Author.Tests.{lt-ltb, ltb-true}
 use Rattle.words.specs.Format.{Format, binary16, binary32, binary64}
 use Rattle.lists.specs.Digits.{digit_of, hexadecimal, number_of}
 use Rattle.lists.specs.Judge.{Judge}
@@ -17,8 +17,8 @@ use Rattle.lists.specs.Lines.{operand_text, result_text, flags_text, well_formed
 use Rattle.lists.specs.Grammar.{Digit, decimal, upper, lower, Digits, none, next, Fields}
 use Rattle.lists.specs.declared.line.Verdict.TheVariants.{Malformed, Agrees, Disagrees}
 use Rattle.lists.proofs.Characters.{decimal-value, upper-value, lower-value, value_before, value-between, value-past-upper, value-past}
-use Rattle.lists.proofs.Hex.{both}
-use Rattle.lists.proofs.Verdicts.{operand-length, result-length, of_four, of-eight, of-sixteen}
+use Rattle.std.proofs.lemmas.Bool.{and_parts}
+use Rattle.lists.proofs.Verdicts.{Tested, tested, well-formed, ill-formed, operand-length, result-length, of_four, of-eight, of-sixteen}
 
 -- ---- digits
 
@@ -63,7 +63,7 @@ digits-length (next d r) = ap suc (digits-length r)
 hexadecimal-digits : (s : List ℕ) → hexadecimal s ≡ true → Digits (length s) s
 unfolding hexadecimal
 hexadecimal-digits [] h = none
-hexadecimal-digits (c ∷ s) h = let b = both (ltb (digit_of c) 16) (hexadecimal s) h in next (read-digit c (ltb-true (digit_of c) 16 b.0)) (hexadecimal-digits s b.1)
+hexadecimal-digits (c ∷ s) h = let b = and_parts (ltb (digit_of c) 16) (hexadecimal s) h in next (read-digit c (ltb-true (digit_of c) 16 b.0)) (hexadecimal-digits s b.1)
 
 digits_of : (s : List ℕ) (n : ℕ) → length s ≡ n → hexadecimal s ≡ true → Digits n s
 digits_of s n e h = subst (λ (k : ℕ). Digits k s) e (hexadecimal-digits s h)
@@ -105,39 +105,32 @@ module _ (w : ℕ) (x r g : List ℕ) (ex : length x ≡ w) (er : length r ≡ w
 
 -- every line of the grammar is well formed
 parts-well-formed : (w : ℕ) (x r g : List ℕ) → Digits w x → Digits w r → Digits 2 g → well_formed w (x ++ 32 ∷ (r ++ 32 ∷ g)) ≡ true
-unfolding well_formed
 parts-well-formed w x r g dx dr dg =
-    let m : List ℕ = x ++ 32 ∷ (r ++ 32 ∷ g) in
     let ex = digits-length dx in
     let er = digits-length dr in
-    (λ i. eq-eqb (length m) (w + 1 + w + 1 + 2) (cut-length w x r g ex er (digits-length dg)) i
-    && ((((ap hexadecimal (cut-operand w x r g ex er) ∙ digits-hexadecimal dx) i
-    && (ap hexadecimal (cut-result w x r g ex er) ∙ digits-hexadecimal dr) i)
-    && (ap hexadecimal (cut-flags w x r g ex er) ∙ digits-hexadecimal dg) i)
-    && (eq-eqb (get_or m w 0) 32 (cut-blank w x r g ex er) i && eq-eqb (get_or m (w + 1 + w) 0) 32 (cut-second-blank w x r g ex er) i)))
+    well-formed w (x ++ 32 ∷ (r ++ 32 ∷ g)) (record {
+      size = cut-length w x r g ex er (digits-length dg);
+      operand = ap hexadecimal (cut-operand w x r g ex er) ∙ digits-hexadecimal dx;
+      result = ap hexadecimal (cut-result w x r g ex er) ∙ digits-hexadecimal dr;
+      flags = ap hexadecimal (cut-flags w x r g ex er) ∙ digits-hexadecimal dg;
+      first = cut-blank w x r g ex er;
+      second = cut-second-blank w x r g ex er;
+    })
 
 pub fields-well-formed : (w : ℕ) (l : List ℕ) → Fields w l → well_formed w l ≡ true
 fields-well-formed w l f = ap (well_formed w) f.is ∙ parts-well-formed w f.operand f.result f.flags f.operand-digits f.result-digits f.flags-digits
 
 -- and every line that is well formed is of the grammar
-pub well-formed-fields : (w : ℕ) (l : List ℕ) → well_formed w l ≡ true → Fields w l
-unfolding well_formed
-well-formed-fields w l h =
-    let a = both (eqb (length l) (w + 1 + w + 1 + 2)) _ h in
-    let b = both _ (eqb (get_or l w 0) 32 && eqb (get_or l (w + 1 + w) 0) 32) a.1 in
-    let c = both (hexadecimal (operand_text w l) && hexadecimal (result_text w l)) _ b.0 in
-    let d = both (hexadecimal (operand_text w l)) _ c.0 in
-    let e = both (eqb (get_or l w 0) 32) _ b.1 in
-    let n : length l ≡ w + 1 + w + 1 + 2 = eqb-true (length l) (w + 1 + w + 1 + 2) a.0 in
-    record {
-      operand = operand_text w l;
-      result = result_text w l;
-      flags = flags_text w l;
-      operand-digits = digits_of (operand_text w l) w (operand-length w l n) d.0;
-      result-digits = digits_of (result_text w l) w (result-length w l n) d.1;
-      flags-digits = digits_of (flags_text w l) 2 (length-drop (w + 1 + w + 1) l ∙ omega arith) c.1;
-      is = whole w l n (eqb-true (get_or l w 0) 32 e.0) (eqb-true (get_or l (w + 1 + w) 0) 32 e.1);
-    }
+tested-fields : (w : ℕ) (l : List ℕ) → Tested w l → Fields w l
+tested-fields w l t = record {
+  operand = operand_text w l;
+  result = result_text w l;
+  flags = flags_text w l;
+  operand-digits = digits_of (operand_text w l) w (operand-length w l t.size) t.operand;
+  result-digits = digits_of (result_text w l) w (result-length w l t.size) t.result;
+  flags-digits = digits_of (flags_text w l) 2 (length-drop (w + 1 + w + 1) l ∙ omega (arith, t.size)) t.flags;
+  is = whole w l t.size t.first t.second;
+}
   where
     whole : (w : ℕ) (l : List ℕ) → length l ≡ w + 1 + w + 1 + 2 → get_or l w 0 ≡ 32 → get_or l (w + 1 + w) 0 ≡ 32
         → l ≡ take w l ++ 32 ∷ (take w (drop (w + 1) l) ++ 32 ∷ drop (w + 1 + w + 1) l)
@@ -150,6 +143,9 @@ well-formed-fields w l h =
       where
         sum : (w : ℕ) → w + 1 + suc w ≡ w + 1 + w + 1
         sum w = omega arith
+
+pub well-formed-fields : (w : ℕ) (l : List ℕ) → well_formed w l ≡ true → Fields w l
+well-formed-fields w l h = tested-fields w l (tested w l h)
 
 -- ---- what is said of a line of the grammar
 
@@ -168,22 +164,23 @@ said_at j f w l d =
 fields-length : (w : ℕ) (l : List ℕ) → Fields w l → length l ≡ w + 1 + w + 1 + 2
 fields-length w l d = ap length d.is ∙ cut-length w d.operand d.result d.flags (digits-length d.operand-digits) (digits-length d.result-digits) (digits-length d.flags-digits)
 
+-- the length of such a line tells its format
+pub said : (f : Format) (w : ℕ) → ((j : Judge) (l : List ℕ) → length l ≡ w + 1 + w + 1 + 2 → verdict j l ≡ verdict_at j f w l)
+    → (j : Judge) (l : List ℕ) (d : Fields w l) → verdict j l ≡ cond (agree (j f (number_of d.operand)) f (number_of d.result) (number_of d.flags)) Agrees Disagrees
+said f w told j l d = told j l (fields-length w l d) ∙ said_at j f w l d
+
 pub said-16 : (j : Judge) (l : List ℕ) (d : Fields 4 l) → verdict j l ≡ cond (agree (j binary16 (number_of d.operand)) binary16 (number_of d.result) (number_of d.flags)) Agrees Disagrees
-said-16 j l d = of_four j l (fields-length 4 l d) ∙ said_at j binary16 4 l d
+said-16 = said binary16 4 of_four
 
 pub said-32 : (j : Judge) (l : List ℕ) (d : Fields 8 l) → verdict j l ≡ cond (agree (j binary32 (number_of d.operand)) binary32 (number_of d.result) (number_of d.flags)) Agrees Disagrees
-said-32 j l d = of-eight j l (fields-length 8 l d) ∙ said_at j binary32 8 l d
+said-32 = said binary32 8 of-eight
 
 pub said-64 : (j : Judge) (l : List ℕ) (d : Fields 16 l) → verdict j l ≡ cond (agree (j binary64 (number_of d.operand)) binary64 (number_of d.result) (number_of d.flags)) Agrees Disagrees
-said-64 j l d = of-sixteen j l (fields-length 16 l d) ∙ said_at j binary64 16 l d
+said-64 = said binary64 16 of-sixteen
 
 -- any other is malformed
 not-well-formed : (w : ℕ) (l : List ℕ) → ¬ Fields w l → well_formed w l ≡ false
-not-well-formed w l n = go (well_formed w l) refl
-  where
-    go : (b : Bool) → well_formed w l ≡ b → well_formed w l ≡ false
-    go true e = absurd (n (well-formed-fields w l e))
-    go false e = e
+not-well-formed w l n = ill-formed w l (λ t. n (well-formed-fields w l (well-formed w l t)))
 
 pub said-other : (j : Judge) (l : List ℕ) → ¬ Fields 4 l → ¬ Fields 8 l → ¬ Fields 16 l → verdict j l ≡ Malformed
 unfolding verdict

@@ -1,7 +1,7 @@
 -- A number in hexadecimal on its way: the digits that are read give a value, and the rest of the text follows it. Assumes nothing.
 use Prim.Native.Nat.{ℕ, suc, ◌+◌, ◌*◌, ◌^◌, ◌≤◌, ◌<◌}
 use mathlib.Core.Path.{◌≡◌, refl, sym, ap, subst, ◌∙◌}
-use mathlib.Core.Bool.{Bool, true, false, ◌&&◌, false≢true}
+use mathlib.Core.Bool.{Bool, true, false, ◌&&◌}
 use mathlib.Core.List.{List, [], ◌∷◌}
 use native.Mathlib.Omega.{arith}
 use native.Mathlib.Numerals.{add-one}
@@ -10,8 +10,11 @@ use lib.Dec.{ltb}
 use lib.ListN.{length, drop, get_or, drop_of_length-le}
 use lib.Seq.{drop-cons}
 use lib.Pow.{pow_mono, pow-add}
-use borrow.Author.Tests.{lt-ltb, le-ltb, ltb-true}
-use Rattle.lists.specs.Digits.{digit_of, hexadecimal, number_from, number_of, read_number, found, none}
+use borrow.Author.Tests.{lt-ltb, ltb-true}
+use Rattle.std.proofs.Common.{cond, Some, None}
+use Rattle.std.proofs.lemmas.Bool.{and_parts}
+use Rattle.std.proofs.lemmas.Option.{cond_some}
+use Rattle.lists.specs.Digits.{digit_of, read_digit, hexadecimal, number_from, number_of, read_number}
 
 pub record Reading (s : List ℕ) (value i : ℕ) : Type 0 where
   pub good : hexadecimal s ≡ hexadecimal (drop i s)
@@ -33,53 +36,57 @@ hex-cons : (c : ℕ) (s : List ℕ) → digit_of c < 16 → hexadecimal (c ∷ s
 unfolding hexadecimal
 hex-cons c s h = ap (λ (b : Bool). b && hexadecimal s) (lt-ltb (digit_of c) 16 h)
 
--- a digit
-pub next : {s : List ℕ} {value i d : ℕ} → Reading s value i → i < length s → d ≡ digit_of (get_or s i 0) → d < 16 → Reading s (value * 16 + d) (i + 1)
-unfolding number_from
-next {s} {value} {i} {d} r h e l =
-    record {
-      good =
-          r.good ∙ ap hexadecimal (drop-cons s i 0 h)
-          ∙ hex-cons (get_or s i 0) (drop (suc i) s) (subst (λ (z : ℕ). z < 16) e l)
-          ∙ ap (λ (n : ℕ). hexadecimal (drop n s)) (sym (add-one i));
-      rest = r.rest ∙ ap (number_from value) (drop-cons s i 0 h) ∙ (λ k. number_from (value * 16 + sym e k) (drop (sym (add-one i) k) s));
-      small = rw (four i) (grow value d (2 ^ (4 * i)) r.small l);
-      few = r.few;
-    }
+-- where a test says no there is nothing
+pub cond-none : {A : Type 0} (b : Bool) (x : A) → cond b (Some x) None ≡ None → b ≡ false
+cond-none true x e = absurd (cc)
+cond-none false x e = refl
 
--- any other character
-pub bad : {s : List ℕ} {value i d : ℕ} → Reading s value i → i < length s → d ≡ digit_of (get_or s i 0) → 16 ≤ d → read_number s ≡ none
-unfolding hexadecimal
-bad {s} {value} {i} {d} r h e l = let g : hexadecimal s ≡ false = r.good ∙ rw (drop-cons s i 0 h, ← e, le-ltb _ _ l) in rw g
+-- a digit that was read
+pub digit-some : (c : ℕ) {d : ℕ} → read_digit c ≡ Some d → (d ≡ digit_of c) × (d < 16)
+digit-some c e =
+    let t = cond_some (ltb (digit_of c) 16) _ _ e in
+    (sym t.1, subst (λ (z : ℕ). z < 16) t.1 (ltb-true (digit_of c) 16 t.0))
 
--- the end of the text
-pub end : {s : List ℕ} {value i : ℕ} → Reading s value i → length s ≤ i → read_number s ≡ found value
-unfolding hexadecimal number_from
-end {s} {value} {i} r h =
-    let g : hexadecimal s ≡ true = r.good ∙ rw (drop_of_length-le s h) in
-    let n : number_of s ≡ value = r.rest ∙ rw (drop_of_length-le s h) in
-    rw (g, n)
+module _ {s : List ℕ} {value i : ℕ} (r : Reading s value i) where
+  -- a digit
+  pub next : {d : ℕ} → i < length s → read_digit (get_or s i 0) ≡ Some d → Reading s (value * 16 + d) (i + 1)
+  unfolding number_from
+  next {d} h k =
+      let e = (digit-some (get_or s i 0) k).0 in
+      let l = (digit-some (get_or s i 0) k).1 in
+      record {
+        good =
+            r.good ∙ ap hexadecimal (drop-cons s i 0 h)
+            ∙ hex-cons (get_or s i 0) (drop (suc i) s) (subst (λ (z : ℕ). z < 16) e l)
+            ∙ ap (λ (n : ℕ). hexadecimal (drop n s)) (sym (add-one i));
+        rest = r.rest ∙ ap (number_from value) (drop-cons s i 0 h) ∙ (λ k. number_from (value * 16 + sym e k) (drop (sym (add-one i) k) s));
+        small = rw (four i) (grow value d (2 ^ (4 * i)) r.small l);
+        few = r.few;
+      }
 
--- the value fits u64, with one digit more
-pub room : {s : List ℕ} {value i d : ℕ} → Reading s value i → i < length s → d < 16 → value * 16 + d < 18446744073709551616
-room {s} {value} {i} {d} r h l =
-    let p : 2 ^ (4 * i) ≤ 2 ^ 60 = pow_mono {i = 4 * i} {j = 60} (omega (arith, r.few)) in
-    fits value d (2 ^ (4 * i)) r.small p l
-  where
-    fits : (v d q : ℕ) → v < q → q ≤ 1152921504606846976 → d < 16 → v * 16 + d < 18446744073709551616
-    fits v d q h k l = omega arith
+  -- any other character
+  pub bad : i < length s → read_digit (get_or s i 0) ≡ None → read_number s ≡ None
+  unfolding hexadecimal
+  bad h k = let g : hexadecimal s ≡ false = r.good ∙ rw (drop-cons s i 0 h, cond-none (ltb (digit_of (get_or s i 0)) 16) _ k) in rw g
 
--- both of two tests hold
-pub both : (a b : Bool) → (a && b) ≡ true → (a ≡ true) × (b ≡ true)
-both true b h = (refl, h)
-both false b h = (h, absurd (false≢true h))
+  -- the end of the text
+  pub end : length s ≤ i → read_number s ≡ Some value
+  unfolding hexadecimal number_from
+  end h =
+      let g : hexadecimal s ≡ true = r.good ∙ rw (drop_of_length-le s h) in
+      let n : number_of s ≡ value = r.rest ∙ rw (drop_of_length-le s h) in
+      rw (g, n)
+
+  -- there is room for one digit more
+  pub room : i < length s → value < 2 ^ 60
+  room h = omega (arith, r.small, pow_mono {i = 4 * i} {j = 60} (omega (arith, r.few)))
 
 -- a number of k digits is below 2 ^ (4 * k)
 pub number-from-below : (s : List ℕ) (n k : ℕ) → hexadecimal s ≡ true → n < 2 ^ (4 * k) → number_from n s < 2 ^ (4 * (k + length s))
 unfolding hexadecimal number_from
 number-from-below [] n k h l = subst (λ (z : ℕ). n < 2 ^ (4 * z)) (sym (add-zero k)) l
 number-from-below (c ∷ s) n k h l =
-    let b = both (ltb (digit_of c) 16) (hexadecimal s) h in
+    let b = and_parts (ltb (digit_of c) 16) (hexadecimal s) h in
     subst (λ (z : ℕ). number_from (n * 16 + digit_of c) s < 2 ^ (4 * z)) (shift k (length s))
     (number-from-below s (n * 16 + digit_of c) (k + 1) b.1
     (subst (λ (z : ℕ). n * 16 + digit_of c < z) (sym (four k)) (grow n (digit_of c) (2 ^ (4 * k)) l (ltb-true (digit_of c) 16 b.0))))
@@ -89,3 +96,6 @@ number-from-below (c ∷ s) n k h l =
 
 pub number-below : (s : List ℕ) (w : ℕ) → length s ≡ w → hexadecimal s ≡ true → number_of s < 2 ^ (4 * w)
 number-below s w e h = subst (λ (z : ℕ). number_of s < 2 ^ (4 * z)) (zero-add (length s) ∙ e) (number-from-below s 0 0 h (omega arith))
+
+-- so a text is read digit by digit
+pub ruleset reading = (digit-some, bad, end, room)

@@ -6,7 +6,7 @@ use mathlib.Core.List.{List, [], ◌∷◌, ◌++◌, append-nil, append_assoc}
 use lib.Dec.{eqb}
 use borrow.Author.Tests.{eqb-true, not-true}
 use Rattle.lists.specs.Counts.{newline, last_line, lines_from, lines_of, written, plain, all_plain, Lined}
-use Rattle.lists.proofs.Hex.{both}
+use Rattle.std.proofs.lemmas.Bool.{and_parts}
 
 -- a byte more, by whether it is a newline
 pub lines-byte : (l : List ℕ) (b : ℕ) (s : List ℕ) {n : Bool} → eqb b newline ≡ n → lines_from l (b ∷ s) ≡ cond n (l ∷ lines_from [] s) (lines_from (l ++ b ∷ []) s)
@@ -19,20 +19,20 @@ up-to-newline : (m l s : List ℕ) → plain m ≡ true → lines_from l (m ++ n
 unfolding lines_from
 up-to-newline [] l s h = ap (λ (k : List ℕ). k ∷ lines_from [] s) (sym (append-nil l))
 up-to-newline (b ∷ m) l s h =
-    let p = both (not (eqb b newline)) (plain m) h in
+    let p = and_parts (not (eqb b newline)) (plain m) h in
     lines-byte l b (m ++ newline ∷ s) (not-true (eqb b newline) p.0) ∙ up-to-newline m (l ++ b ∷ []) s p.1 ∙ ap (λ (k : List ℕ). k ∷ lines_from [] s) (append_assoc l (b ∷ []) m)
 
 after-newlines : (m l : List ℕ) → plain m ≡ true → lines_from l m ≡ last_line (l ++ m)
 unfolding lines_from
 after-newlines [] l h = ap last_line (sym (append-nil l))
 after-newlines (b ∷ m) l h =
-    let p = both (not (eqb b newline)) (plain m) h in
+    let p = and_parts (not (eqb b newline)) (plain m) h in
     lines-byte l b m (not-true (eqb b newline) p.0) ∙ after-newlines m (l ++ b ∷ []) p.1 ∙ ap last_line (append_assoc l (b ∷ []) m)
 
 pub lines-written : (ls : List (List ℕ)) (l : List ℕ) → all_plain ls ≡ true → plain l ≡ true → lines_of (written ls ++ l) ≡ ls ++ last_line l
 lines-written [] l h e = after-newlines l [] e
 lines-written (k ∷ ls) l h e =
-    let p = both (plain k) (all_plain ls) h in
+    let p = and_parts (plain k) (all_plain ls) h in
     ap lines_of (append_assoc k (newline ∷ written ls) l)
     ∙ up-to-newline k [] (written ls ++ l) p.0
     ∙ ap (λ (r : List (List ℕ)). k ∷ r) (lines-written ls l p.1 e)

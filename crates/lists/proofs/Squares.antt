@@ -1,13 +1,16 @@
 -- A square that ends in 2 * k zeros is that of a number that ends in k: so an exact root is told by the square of what stands before its zeros. Assumes nothing.
 use Prim.Native.Nat.{ℕ, zero, suc, ◌+◌, ◌*◌, ◌/◌, ◌%◌, ◌^◌, ◌<◌}
-use mathlib.Core.Path.{◌≡◌, refl, sym, ap, ◌∙◌}
-use mathlib.Core.Bool.{Bool, true, false, ◌&&◌, false≢true}
+use mathlib.Core.Path.{◌≡◌, sym, ap, ◌∙◌}
+use mathlib.Core.Bool.{◌&&◌}
 use mathlib.Core.Logic.{⊎_elim}
 use native.Mathlib.Omega.{arith}
 use native.Mathlib.Nat.{mul-div_cancel, pow-succ'}
 use lib.Dec.{eqb}
 use lib.Pow.{pow_pos, pow-add}
-use borrow.Author.Tests.{eq-eqb, ne_eqb, eqb-true}
+use borrow.Author.Tests.{eq-eqb, eqb-true}
+use Rattle.std.specs.Cmp.{both_ways}
+use Rattle.std.specs.Cmp.Derive.{both_true}
+use Rattle.std.proofs.lemmas.Bool.{and_parts}
 use Rattle.root.proofs.Engine.{four-pow}
 use Rattle.root.proofs.Operands.{four-pos}
 use Rattle.root.proofs.Roots.{parity}
@@ -15,11 +18,18 @@ use Rattle.root.proofs.Roots.{parity}
 -- ---- two tests that say the same
 
 pub eqb_same : (a b c d : ℕ) → (a ≡ b → c ≡ d) → (c ≡ d → a ≡ b) → eqb a b ≡ eqb c d
-eqb_same a b c d there back = go (eqb a b) refl
-  where
-    go : (t : Bool) → eqb a b ≡ t → t ≡ eqb c d
-    go true e = sym (eq-eqb c d (there (eqb-true a b e)))
-    go false e = sym (ne_eqb c d (λ h. false≢true (sym e ∙ eq-eqb a b (back h))))
+eqb_same a b c d there back = both_ways (eqb a b) (eqb c d) (λ e. eq-eqb c d (there (eqb-true a b e))) (λ e. eq-eqb a b (back (eqb-true c d e)))
+
+-- ---- products
+
+pub swap : (t p : ℕ) → t * p * (t * p) ≡ t * t * (p * p)
+swap t p = omega arith
+
+order : (w j p : ℕ) → w * j * p ≡ w * (j * p)
+order w j p = omega arith
+
+pub cancel : (a b h : ℕ) → 0 < h → a * h ≡ b * h → a ≡ b
+cancel a b h l e = sym (mul-div_cancel a l) ∙ ap (λ (z : ℕ). z / h) e ∙ mul-div_cancel b l
 
 -- ---- the number that ends in k zeros
 
@@ -72,34 +82,16 @@ module _ (s w k j : ℕ) where
       ∙ ap (λ (z : ℕ). z * (2 ^ k * 2 ^ k)) b
       ∙ order w (2 ^ j) (2 ^ k * 2 ^ k)
       ∙ ap (λ (z : ℕ). w * z) (sym zeros)
-    where
-      swap : (t p : ℕ) → t * p * (t * p) ≡ t * t * (p * p)
-      swap t p = omega arith
-
-      order : (w j p : ℕ) → w * j * p ≡ w * (j * p)
-      order w j p = omega arith
 
   square-tested : s * s ≡ w * 2 ^ (j + (k + k)) → (t * 2 ^ k ≡ s) × (t * t ≡ w * 2 ^ j)
   square-tested e =
-      let four : w * 2 ^ (j + (k + k)) ≡ w * 2 ^ j * 4 ^ k = ap (λ (z : ℕ). w * z) zeros ∙ order w (2 ^ j) (2 ^ k * 2 ^ k) ∙ ap (λ (z : ℕ). w * 2 ^ j * z) (sym (four-pow k)) in
+      let four : w * 2 ^ (j + (k + k)) ≡ w * 2 ^ j * 4 ^ k = ap (λ (z : ℕ). w * z) zeros ∙ sym (order w (2 ^ j) (2 ^ k * 2 ^ k)) ∙ ap (λ (z : ℕ). w * 2 ^ j * z) (sym (four-pow k)) in
       let d = ends k s (w * 2 ^ j) (e ∙ four) in
       let is : t ≡ d.front = ap (λ (z : ℕ). z / 2 ^ k) d.is ∙ mul-div_cancel d.front (pow_pos k) in
       let back : t * 2 ^ k ≡ s = ap (λ (z : ℕ). z * 2 ^ k) is ∙ sym d.is in
-      (back, cancel (t * t) (w * 2 ^ j) (4 ^ k) (four-pos k) (ap (λ (z : ℕ). t * t * z) (four-pow k) ∙ swap t (2 ^ k) ∙ ap (λ (z : ℕ). z * z) back ∙ e ∙ four))
-    where
-      swap : (t p : ℕ) → t * t * (p * p) ≡ t * p * (t * p)
-      swap t p = omega arith
-
-      order : (w j p : ℕ) → w * (j * p) ≡ w * j * p
-      order w j p = omega arith
-
-      cancel : (a b h : ℕ) → 0 < h → a * h ≡ b * h → a ≡ b
-      cancel a b h l e = sym (mul-div_cancel a l) ∙ ap (λ (z : ℕ). z / h) e ∙ mul-div_cancel b l
+      (back, cancel (t * t) (w * 2 ^ j) (4 ^ k) (four-pos k) (ap (λ (z : ℕ). t * t * z) (four-pow k) ∙ sym (swap t (2 ^ k)) ∙ ap (λ (z : ℕ). z * z) back ∙ e ∙ four))
 
   pub tested : (eqb (t * 2 ^ k) s && eqb (t * t) (w * 2 ^ j)) ≡ eqb (s * s) (w * 2 ^ (j + (k + k)))
-  tested = go (eqb (t * 2 ^ k) s) (eqb (t * t) (w * 2 ^ j)) refl refl
-    where
-      go : (a b : Bool) → eqb (t * 2 ^ k) s ≡ a → eqb (t * t) (w * 2 ^ j) ≡ b → (a && b) ≡ eqb (s * s) (w * 2 ^ (j + (k + k)))
-      go true true p q = sym (eq-eqb _ _ (tested-square (eqb-true _ _ p) (eqb-true _ _ q)))
-      go true false p q = sym (ne_eqb _ _ (λ e. false≢true (sym q ∙ eq-eqb _ _ (square-tested e).1)))
-      go false b p q = sym (ne_eqb _ _ (λ e. false≢true (sym p ∙ eq-eqb _ _ (square-tested e).0)))
+  tested = both_ways _ _
+      (λ e. let h = and_parts _ _ e in eq-eqb _ _ (tested-square (eqb-true _ _ h.0) (eqb-true _ _ h.1)))
+      (λ e. let h = square-tested (eqb-true _ _ e) in both_true (eq-eqb _ _ h.0) (eq-eqb _ _ h.1))

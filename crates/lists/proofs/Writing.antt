@@ -8,7 +8,7 @@ use native.Mathlib.Omega.{arith}
 use native.Mathlib.Decide.{dec_lt}
 use native.Mathlib.Nat.{pow-succ', zero-add, add-zero}
 use borrow.Author.Tests.{lt-ltb, le-ltb}
-use Rattle.words.specs.Format.{binary16, binary32, binary64}
+use Rattle.words.specs.Format.{Format, binary16, binary32, binary64}
 use Rattle.lists.specs.Digits.{digit_of, number_from, number_of}
 use Rattle.lists.specs.Judge.{Judge}
 use Rattle.lists.specs.Lines.{agree, verdict}
@@ -102,17 +102,17 @@ module _ (letter : ℕ) (case : Case letter) where
     is = refl;
   }
 
+  module _ (f : Format) (w : ℕ) (told : (j : Judge) (l : List ℕ) (d : Fields w l) → verdict j l ≡ cond (agree (j f (number_of d.operand)) f (number_of d.result) (number_of d.flags)) Agrees Disagrees) where
+    written-line : (j : Judge) (x r g : ℕ) → x < 16 ^ w → r < 16 ^ w → g < 16 ^ 2 → verdict j (line_in letter w x r g) ≡ cond (agree (j f x) f r g) Agrees Disagrees
+    written-line j x r g a b c =
+        told j (line_in letter w x r g) (fields w x r g)
+        ∙ (λ i. cond (agree (j f (hex-number w x a i)) f (hex-number w r b i) (hex-number 2 g c i)) Agrees Disagrees)
+
   pub written-16 : (j : Judge) (x r g : ℕ) → x < 16 ^ 4 → r < 16 ^ 4 → g < 16 ^ 2 → verdict j (line_in letter 4 x r g) ≡ cond (agree (j binary16 x) binary16 r g) Agrees Disagrees
-  written-16 j x r g a b c =
-      said-16 j (line_in letter 4 x r g) (fields 4 x r g)
-      ∙ (λ i. cond (agree (j binary16 (hex-number 4 x a i)) binary16 (hex-number 4 r b i) (hex-number 2 g c i)) Agrees Disagrees)
+  written-16 = written-line binary16 4 said-16
 
   pub written-32 : (j : Judge) (x r g : ℕ) → x < 16 ^ 8 → r < 16 ^ 8 → g < 16 ^ 2 → verdict j (line_in letter 8 x r g) ≡ cond (agree (j binary32 x) binary32 r g) Agrees Disagrees
-  written-32 j x r g a b c =
-      said-32 j (line_in letter 8 x r g) (fields 8 x r g)
-      ∙ (λ i. cond (agree (j binary32 (hex-number 8 x a i)) binary32 (hex-number 8 r b i) (hex-number 2 g c i)) Agrees Disagrees)
+  written-32 = written-line binary32 8 said-32
 
   pub written-64 : (j : Judge) (x r g : ℕ) → x < 16 ^ 16 → r < 16 ^ 16 → g < 16 ^ 2 → verdict j (line_in letter 16 x r g) ≡ cond (agree (j binary64 x) binary64 r g) Agrees Disagrees
-  written-64 j x r g a b c =
-      said-64 j (line_in letter 16 x r g) (fields 16 x r g)
-      ∙ (λ i. cond (agree (j binary64 (hex-number 16 x a i)) binary64 (hex-number 16 r b i) (hex-number 2 g c i)) Agrees Disagrees)
+  written-64 = written-line binary64 16 said-64

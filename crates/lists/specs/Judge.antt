@@ -1,12 +1,11 @@
 -- What a list's lines are held to: for each format and operand a result's word and its flags, in TestFloat's bits. Definitions only.
 use Rattle.std.specs.Prelude.{ℕ, ◌+◌, ◌*◌, ◌^◌, Bool, not, ◌&&◌, ◌||◌, leb, ltb, eqb}
-use Rattle.words.specs.Format.{Format, low, hid, infinity, quiet, top, magnitude, negative, is_nan_word, units}
+use Rattle.words.specs.Format.{Format, low, hid, infinity, quiet, magnitude, negative, is_nan_word, units}
 use Rattle.words.specs.Rounding.{bit}
 use Rattle.words.specs.Nearest.{square}
 use Rattle.root.specs.Root.{lifted, root_at, root_word}
 use Rattle.root.specs.Partial.{positive}
 use Rattle.lists.specs.declared.judge.Judged.{Judged}
-use Rattle.lists.specs.declared.marks.Marks.{Marks}
 
 -- what is held to be right
 abbrev pub Judge : Type 0
@@ -48,8 +47,3 @@ root_flags f x = 16 * bit (invalid f x) + 4 * bit (overflow f x) + 2 * bit (unde
 
 abbrev pub root_judged : Judge
 root_judged f x = record { word = root_word f x; flags = root_flags f x }
-
--- ---- the words that the code compares with
-
-abbrev pub marks : Format → Marks
-marks f = record { infinity = infinity f; quiet = quiet f; top = top f }

@@ -1,5 +1,5 @@
 -- A line of a list, and what is said of it. Definitions only.
-use Rattle.std.specs.Prelude.{ℕ, ◌+◌, ◌*◌, ◌^◌, ◌<◌, ◌≡◌, Bool, true, ◌&&◌, cond, List, eqb, length, take, drop, get_or}
+use Rattle.std.specs.Prelude.{ℕ, ◌+◌, Bool, ◌&&◌, cond, List, Option, Some, None, eqb, length, take, drop, get_or}
 use Rattle.words.specs.Format.{Format, binary16, binary32, binary64, is_nan_word}
 use Rattle.lists.specs.Digits.{hexadecimal, number_of}
 use Rattle.lists.specs.Judge.{Judge}
@@ -53,12 +53,9 @@ verdict j l =
     (cond (well_formed 16 l) (compared j binary64 16 l)
     Malformed))
 
--- ---- what the code reads of a line that is as long as one whose words have w hexadecimal digits
+-- ---- what the code reads of a line
 
-pub record NumbersRead (w : ℕ) (l : List ℕ) (r : Numbers) : Type 0 where
-  pub well-formed : r.ok ≡ well_formed w l
-  pub operand_small : r.operand < 2 ^ (4 * w)
-  pub result-small : r.result < 2 ^ (4 * w)
-  pub operand-is : r.ok ≡ true → r.operand ≡ number_of (operand_text w l)
-  pub result-is : r.ok ≡ true → r.result ≡ number_of (result_text w l)
-  pub flags-is : r.ok ≡ true → r.flags ≡ number_of (flags_text w l)
+-- the three numbers of a line whose words have w hexadecimal digits, if it is well formed
+abbrev pub numbers : ℕ → List ℕ → Option Numbers
+numbers w l =
+    cond (well_formed w l) (Some (record { operand = number_of (operand_text w l); result = number_of (result_text w l); flags = number_of (flags_text w l) })) None

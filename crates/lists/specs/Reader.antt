@@ -1,8 +1,8 @@
 -- The reader: what it keeps of a stream so far, and how a byte changes it. Definitions only; that it gives the report on the stream is proofs/Report.antt.
-use Rattle.std.specs.Prelude.{ℕ, ◌-◌, ◌≤◌, ◌<◌, ◌≡◌, true, cond, List, [], ◌∷◌, ◌++◌, eqb, length, take, drop, get_or, replicate}
+use Rattle.std.specs.Prelude.{ℕ, ◌-◌, ◌≡◌, cond, List, [], ◌∷◌, ◌++◌, eqb, length, take, replicate}
 use Rattle.lists.specs.Judge.{Judge, root_judged}
 use Rattle.lists.specs.Lines.{verdict}
-use Rattle.lists.specs.Counts.{Totals, one_more, newline, plain}
+use Rattle.lists.specs.Counts.{Totals, one_more, newline}
 use Rattle.lists.specs.declared.line.Verdict.{Verdict}
 use Rattle.lists.specs.declared.line.Verdict.TheVariants.{Malformed, Agrees, Disagrees}
 use Rattle.lists.specs.declared.tally.Line.{Line}
@@ -95,21 +95,6 @@ Fed state piece r = r ≡ state_of (fed root_judged (progress_of state) piece)
 
 abbrev pub Finished : State → Tally → Type 0
 Finished state r = r ≡ tally_of (finished root_judged (progress_of state))
-
--- ---- how the code goes through a piece
-
--- the line that begins at i ends at e: at the next newline, or with the piece
-pub record LineEnd (s : List ℕ) (i e : ℕ) : Type 0 where
-  pub after : i ≤ e
-  pub within : e ≤ length s
-  pub line_plain : plain (take (e - i) (drop i s)) ≡ true
-  pub newline-there : e < length s → get_or s e 0 ≡ newline
-
--- from i on the lines up to k are counted, none is open there, and no newline follows
-pub record LinesEnded (t : Tally) (s : List ℕ) (i : ℕ) (u : Tally) (k : ℕ) : Type 0 where
-  pub within : k ≤ length s
-  pub rest_plain : plain (drop k s) ≡ true
-  pub counted : fed root_judged (record { totals = totals_of t; line = [] }) (drop i s) ≡ fed root_judged (record { totals = totals_of u; line = [] }) (drop k s)
 
 -- ---- a run of the code
 

@@ -1,60 +1,50 @@
 // The bytes of a line that are kept: at most KEPT of them, and zeros after, so that what was read says every one.
-ghost use Rattle.std.specs.Prelude.{◌≡◌, [], ◌++◌, min, take};
+ghost use Rattle.std.specs.Prelude.{◌≡◌, ◌≤◌, [], ◌++◌, length, take};
 ghost use Rattle.lists.specs.Reader.{kept, text_of, line_of};
 
 use super::tally::{KEPT, Line};
 
-// No bytes.
-pub fn no_line() -> Line
-    ensures { result ≡ line_of [] }
-{
-    Line {
-        bytes: [0u8; KEPT],
-        held: 0,
+impl Line {
+    // No bytes.
+    pub(crate) fn empty() -> Self
+        ensures { result ≡ line_of [] }
+    {
+        Line {
+            bytes: [0; KEPT],
+            held: 0,
+        }
     }
-}
 
-// A line that goes on with the bytes s.
-pub fn longer(line: Line, s: &[u8]) -> Line
-    ensures { result ≡ line_of (take kept (text_of line ++ s.now)) }
-{
-    let mut bytes = line.bytes;
-    let open = at_most_all(line.held);
-    let more = at_most(s.len(), KEPT - open);
-    let mut i = 0;
-    while i < more {
-        bytes[open + i] = s[i];
-        i += 1;
+    // The bytes that count: no more than there are.
+    pub fn text(&self) -> &[u8]
+        ensures { result.now ≡ text_of self.now }
+    {
+        &self.bytes[..self.held.min(KEPT)]
     }
-    settled_line(Line {
-        bytes,
-        held: open + more,
-    })
-}
 
-// A line as it is handed out: zeros stand after the bytes that count.
-pub fn settled_line(line: Line) -> Line
-    ensures { result ≡ line_of (text_of line) }
-{
-    let mut bytes = line.bytes;
-    let held = at_most_all(line.held);
-    let mut i = held;
-    while i < KEPT {
-        bytes[i] = 0;
-        i += 1;
+    // The line goes on with the bytes s, as far as there is room.
+    pub(crate) fn longer(self, s: &[u8]) -> Self
+        ensures value { result ≡ line_of (take kept (text_of self ++ s.now)) }
+        ensures few { length (text_of self) ≤ kept }
+    {
+        let mut bytes = self.bytes;
+        let open = self.held.min(KEPT);
+        let more = s.len().min(KEPT - open);
+        bytes[open..open + more].copy_from_slice(&s[..more]);
+        Line {
+            bytes,
+            held: open + more,
+        }
+        .settled()
     }
-    Line { bytes, held }
-}
 
-// How many bytes of a line count: no more than there are.
-pub fn at_most_all(n: usize) -> usize
-    ensures { result ≡ min n kept }
-{
-    at_most(n, KEPT)
-}
-
-fn at_most(n: usize, most: usize) -> usize
-    ensures { result ≡ min n most }
-{
-    if n < most { n } else { most }
+    // The line as it is handed out: zeros stand after the bytes that count.
+    pub(crate) fn settled(self) -> Self
+        ensures { result ≡ line_of (text_of self) }
+    {
+        let mut bytes = self.bytes;
+        let held = self.held.min(KEPT);
+        bytes[held..].fill(0);
+        Line { bytes, held }
+    }
 }

@@ -1,31 +1,11 @@
 // Numbers in hexadecimal, in either case.
 ghost use Rattle.std.specs.Prelude.{◌≡◌, ◌+◌, ◌≤◌, ◌<◌, length};
-ghost use Rattle.lists.specs.Digits.{digit_of, among_of, read_number, none, found};
-
-// Whether a number was read, and which.
-#[derive(Clone, Copy)]
-pub struct Read {
-    pub ok: bool,
-    pub value: u64,
-}
-
-fn nothing() -> Read
-    ensures { result ≡ none }
-{
-    Read {
-        ok: false,
-        value: 0,
-    }
-}
-
-fn just(value: u64) -> Read
-    ensures { result ≡ found value }
-{
-    Read { ok: true, value }
-}
+ghost use Rattle.lists.specs.Digits.{among_of, read_digit, read_number};
 
 // What a character is among the n from `low` on, of which the first stands for `first`; else what is
-// given. One test that compiles to no branch, since nothing foretells which digits are letters.
+// given. One test that compiles to no branch, since nothing foretells which digits are letters: so what is
+// given is a number, and no `Option`.
+#[tactic(auto, using(crate::proofs::Characters::place_inside, crate::proofs::Characters::place_outside))]
 fn among(c: u64, low: u64, n: u64, first: u64, other: u64) -> u64
     requires { (c < 256) × (low + n ≤ 256) × (first ≤ 16) }
     ensures { result ≡ among_of c low n first other }
@@ -34,32 +14,26 @@ fn among(c: u64, low: u64, n: u64, first: u64, other: u64) -> u64
     if place < n { place + first } else { other }
 }
 
-// What a character stands for as a digit; 16 where it is none.
-fn digit(c: u8) -> u64
-    ensures { (result ≡ digit_of c) × (result ≤ 16) }
+// The digit that a character stands for.
+fn digit(c: u8) -> Option<u64>
+    ensures { result ≡ read_digit c }
 {
     let c = c as u64;
     let decimal = among(c, 48, 10, 0, 16);
     let upper = among(c, 65, 6, 10, decimal);
-    among(c, 97, 6, 10, upper)
+    let d = among(c, 97, 6, 10, upper);
+    if d < 16 { Some(d) } else { None }
 }
 
 // The number that a text of at most 16 characters stands for, if all are digits.
-#[tactic(auto, using(crate::proofs::Hex::bad))]
-pub fn hex_number(s: &[u8]) -> Read
+#[tactic(auto, using(crate::proofs::Hex::reading))]
+pub fn hex_number(s: &[u8]) -> Option<u64>
     requires { length s.now ≤ 16 }
     ensures { result ≡ read_number s.now }
 {
-    let n = s.len();
     let mut value = 0;
-    let mut i = 0;
-    while i < n {
-        let d = digit(s[i]);
-        if d >= 16 {
-            return nothing();
-        }
-        value = value * 16 + d;
-        i += 1;
+    for &c in s {
+        value = value * 16 + digit(c)?;
     }
-    just(value)
+    Some(value)
 }

@@ -7,6 +7,5 @@ mod digits;
 mod ended;
 mod judge;
 mod line;
-mod marks;
 pub mod reader;
 pub mod tally;

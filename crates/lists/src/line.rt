@@ -1,16 +1,15 @@
 // A line of a list: W digits of the operand, W of the result and 2 of the flags, one blank between, W 4, 8 or 16.
 // Any other is malformed.
 ghost use Rattle.std.specs.Prelude.{◌≡◌, ◌+◌, ◌*◌, ◌^◌, ◌<◌, ◌≤◌, length};
-ghost use Rattle.words.specs.Format.{format, top, is_nan_word};
-ghost use Rattle.words.specs.Rounding.{Held};
+ghost use Rattle.words.specs.Format.{top};
 ghost use Rattle.lists.specs.Judge.{root_judged};
-ghost use Rattle.lists.specs.Lines.{same_result, agree, verdict_at, verdict, NumbersRead};
+ghost use Rattle.lists.specs.Lines.{same_result, agree, numbers, verdict_at, verdict};
 
 use super::digits::hex_number;
 use super::judge::judge;
-use super::marks::{marks_of, size_of};
+use words::format::Format;
 
-#[derive(Clone, Copy)]
+#[derive(Clone, Copy, Debug, PartialEq, Eq)]
 pub enum Verdict {
     Malformed,
     Agrees,
@@ -18,91 +17,71 @@ pub enum Verdict {
 }
 
 // The verdict on a line: its length tells the width.
+#[tactic(auto, using(crate::proofs::Verdicts::widths))]
 pub fn verdict_of(s: &[u8]) -> Verdict
     ensures { result ≡ verdict root_judged s.now }
 {
-    let n = s.len();
-    if n == 12 {
-        return verdict_at(s, 4, 11, 15);
+    match s.len() {
+        12 => verdict_at(s, 4, Format::binary16()),
+        20 => verdict_at(s, 8, Format::binary32()),
+        36 => verdict_at(s, 16, Format::binary64()),
+        _ => Verdict::Malformed,
     }
-    if n == 20 {
-        return verdict_at(s, 8, 24, 127);
-    }
-    if n == 36 {
-        return verdict_at(s, 16, 53, 1023);
-    }
-    Verdict::Malformed
 }
 
 // The verdict on a line as long as one whose words have w hexadecimal digits.
-fn verdict_at(s: &[u8], w: usize, p: u32, emax: u32) -> Verdict
-    requires held { Held p emax × (2 ^ (4 * w) ≡ 2 * top (format p emax)) × (w ≤ 16) }
+#[tactic(auto, using(crate::proofs::Verdicts::small))]
+fn verdict_at(s: &[u8], w: usize, f: Format) -> Verdict
+    requires words { (2 ^ (4 * w) ≡ 2 * top f) × (w ≤ 16) }
     requires s_len { length s.now ≡ w + 1 + w + 1 + 2 }
-    ensures { result ≡ verdict_at root_judged (format p emax) w s.now }
+    ensures { result ≡ verdict_at root_judged f w s.now }
 {
-    let f = numbers_of(s, w);
-    if !f.ok {
-        return Verdict::Malformed;
+    match numbers_of(s, w) {
+        None => Verdict::Malformed,
+        Some(n) if agrees(f, n) => Verdict::Agrees,
+        Some(_) => Verdict::Disagrees,
     }
-    if agrees(f.operand, f.result, f.flags, p, emax) {
-        return Verdict::Agrees;
-    }
-    Verdict::Disagrees
 }
 
-// Whether a line is well formed, and then its three numbers.
+// The numbers of a well-formed line.
 #[derive(Clone, Copy)]
 struct Numbers {
-    ok: bool,
     operand: u64,
     result: u64,
     flags: u64,
 }
 
-// The numbers of a line as long as one whose words have w hexadecimal digits.
-fn numbers_of(s: &[u8], w: usize) -> Numbers
+// The numbers of a line as long as one whose words have w hexadecimal digits, if it is well formed.
+#[tactic(auto, using(crate::proofs::Verdicts::reads))]
+fn numbers_of(s: &[u8], w: usize) -> Option<Numbers>
     requires { (w ≤ 16) × (length s.now ≡ w + 1 + w + 1 + 2) }
-    ensures { NumbersRead w s.now result }
+    ensures { result ≡ numbers w s.now }
 {
     let a = w + 1;
     let b = a + w;
-    let x = hex_number(&s[0..w]);
-    let r = hex_number(&s[a..b]);
-    let g = hex_number(&s[b + 1..]);
-    let blanks = (s[w] == b' ') & (s[b] == b' ');
-    Numbers {
-        ok: x.ok & r.ok & g.ok & blanks,
-        operand: x.value,
-        result: r.value,
-        flags: g.value,
+    if s[w] != b' ' || s[b] != b' ' {
+        return None;
     }
+    Some(Numbers {
+        operand: hex_number(&s[..w])?,
+        result: hex_number(&s[a..b])?,
+        flags: hex_number(&s[b + 1..])?,
+    })
 }
 
-// Whether the library answers a result and flags to an operand.
-fn agrees(x: u64, res: u64, flags: u64, p: u32, emax: u32) -> bool
-    requires { Held p emax × (x < 2 * top (format p emax)) × (res < 2 * top (format p emax)) }
-    ensures { result ≡ agree (root_judged (format p emax) x) (format p emax) res flags }
+// Whether the library answers a line's result and flags to its operand.
+fn agrees(f: Format, n: Numbers) -> bool
+    requires { (n.operand < 2 * top f) × (n.result < 2 * top f) }
+    ensures { result ≡ agree (root_judged f n.operand) f n.result n.flags }
 {
-    let j = judge(x, p, emax);
-    same_result(j.word, res, p, emax) && j.flags == flags
+    let j = judge(f, n.operand);
+    same_result(f, j.word, n.result) && j.flags == n.flags
 }
 
 // Whether two results are the same word, or both NaNs.
-fn same_result(a: u64, b: u64, p: u32, emax: u32) -> bool
-    requires { Held p emax × (a < 2 * top (format p emax)) × (b < 2 * top (format p emax)) }
-    ensures { result ≡ same_result (format p emax) a b }
+fn same_result(f: Format, a: u64, b: u64) -> bool
+    requires { (a < 2 * top f) × (b < 2 * top f) }
+    ensures { result ≡ same_result f a b }
 {
-    if is_nan(a, p, emax) {
-        return is_nan(b, p, emax);
-    }
-    a == b
-}
-
-// Whether a word of p binary digits is a NaN's.
-fn is_nan(x: u64, p: u32, emax: u32) -> bool
-    requires { Held p emax × (x < 2 * top (format p emax)) }
-    ensures { result ≡ is_nan_word (format p emax) x }
-{
-    let m = marks_of(p, emax);
-    m.infinity < size_of(x, m.top)
+    if f.is_nan(a) { f.is_nan(b) } else { a == b }
 }

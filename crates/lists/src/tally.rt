@@ -4,7 +4,7 @@
 // all of them count the line is too long, and what follows does not matter.
 pub const KEPT: usize = 37;
 
-// The bytes of a line, of which the first `held` count.
+// The bytes of a line, of which the first `held` count: C's struct, so an array with its length beside.
 #[repr(C)]
 #[derive(Clone, Copy)]
 pub struct Line {

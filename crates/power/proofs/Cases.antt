@@ -5,9 +5,7 @@ use mathlib.Core.Bool.{Bool, true, false, cond}
 use lib.Ieee.{Float, Format, mul}
 use Rattle.power.specs.declared.answer.Fate.{Fate}
 use Rattle.power.specs.declared.answer.Fate.TheVariants.{Over, Under, Within}
-use Rattle.power.specs.declared.answer.Sorted.{Sorted}
-use Rattle.power.specs.declared.answer.Sorted.TheVariants.{Settled, Open}
-use Rattle.power.specs.Sorting.{sorted, sorted5, sorted6, sorted7, Told, told, told_settled, told_open}
+use Rattle.power.specs.Sorting.{sorted, sorted5, sorted6, sorted7, Told, told_settled, told_open}
 use Rattle.power.specs.Width.{Width, Two}
 use Rattle.power.specs.Chain.{fate_of, exp2_of, over_of, under_of, finish_of, open_of}
 use Rattle.power.specs.Power.{pow_of}
@@ -26,20 +24,12 @@ fate-map g w a b c p = simp (push g)
 
 -- ---- the power, from the sorting's answer
 
-abbrev pub chosen : Width → ℕ → ℕ → Sorted → ℕ
-chosen w x y (Settled r) = r
-chosen w x y (Open s) = open_of w x y s
+abbrev pub chosen : Width → ℕ → ℕ → Told → ℕ
+chosen w x y t = cond t.settled t.word (open_of w x y t.negative)
 
-abbrev chosen_told : Width → ℕ → ℕ → Told → ℕ
-chosen_told w x y t = cond t.settled t.word (open_of w x y t.negative)
-
-chosen-told : (w : Width) (x y : ℕ) (a : Sorted) → chosen w x y a ≡ chosen_told w x y (told a)
-chosen-told w x y (Settled r) = refl
-chosen-told w x y (Open s) = refl
-
-pub pow-chosen : (w : Width) (x y : ℕ) (a : Sorted) → told a ≡ sorted told_settled told_open w.format x y → chosen w x y a ≡ pow_of w x y
+pub pow-chosen : (w : Width) (x y : ℕ) (t : Told) → t ≡ sorted told_settled told_open w.format x y → chosen w x y t ≡ pow_of w x y
 unfolding pow_of
-pow-chosen w x y a e = chosen-told w x y a ∙ ap (chosen_told w x y) e ∙ sorted-map (chosen_told w x y) told_settled told_open w.format x y
+pow-chosen w x y t e = ap (chosen w x y) e ∙ sorted-map (chosen w x y) told_settled told_open w.format x y
 
 -- ---- the chain's end, from the fate
 

@@ -20,7 +20,7 @@ use Rattle.power.specs.Chain.{product_of, far_of, log_of, sign_of, finish_of, op
 use Rattle.power.specs.Power.{pow_of, single, double}
 use Rattle.power.specs.Stages.{clear, walked_with}
 use Rattle.power.proofs.Words.{both}
-use Rattle.power.proofs.Unsettled.{off, plain-open}
+use Rattle.power.proofs.Unsettled.{off, plain_open}
 
 -- a flag counts one at most
 pub flag-most : {n : ℕ} (b : Bool) → n ≡ cond b 0 1 → n ≤ 1
@@ -156,7 +156,7 @@ module _ (w : Width) where
 
     pub clear-power : to_bits w.format (finish_of w (product_of w (of_bits w.format y) (far_of w x)) (sign_of w false)) ≡ pow_of w x y
     unfolding pow_of
-    clear-power = opened ∙ sym (plain-open (λ r. r) (open_of w x y) w.format x y clear-plain)
+    clear-power = opened ∙ sym (plain_open (λ r. r) (open_of w x y) w.format x y clear-plain)
 
 pub room32 : Room single
 unfolding clear

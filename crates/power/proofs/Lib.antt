@@ -9,7 +9,6 @@ pub mod NearestWhole
 pub mod Intervals
 pub mod Nan
 pub mod MadeOf
-pub mod Fits
 pub mod Exponent
 pub mod Unsettled
 pub mod Edges

@@ -5,13 +5,16 @@ use mathlib.Core.Bool.{true, false}
 use mathlib.Core.Logic.{⊎_elim}
 use native.Mathlib.Nat.{mul-mod_left, mul-pos, eq-zero-or-pos, mod-eq_of_lt, mod-lt, lt_of_lt_of_le, mul-lt-mul_of_pos_right, add-zero, mul_assoc, zero-mul, zero-add, two-pow-succ}
 use native.Mathlib.Omega.{arith}
+use lib.Bits.{bit_and, bit_or, and_mask}
 use lib.Dec.{eqb}
 use lib.Pow.{pow_pos, pow_mono, pow-add, shl-shr, shr-shr, mod-pow-add, split}
 use borrow.Author.Tests.{ne_eqb}
 use Rattle.words.specs.Format.{Format, low, hid, units}
 use Rattle.words.specs.Rounding.{Held}
+use Rattle.words.proofs.Digits.{room}
 use Rattle.words.proofs.Units as Units
 use Rattle.power.specs.Numbers.{whole, odd}
+use Rattle.power.proofs.Words.{led}
 
 -- s * 2 ^ k, by 2 ^ (d + k)
 shifted-mod : (s d k : ℕ) → s * 2 ^ k % 2 ^ (d + k) ≡ (s % 2 ^ d) * 2 ^ k
@@ -21,7 +24,7 @@ shifted-div : (s d k : ℕ) → s * 2 ^ k / 2 ^ (d + k) ≡ s / 2 ^ d
 shifted-div s d k = ap (λ (j : ℕ). s * 2 ^ k / 2 ^ j) (omega arith) ∙ sym (shr-shr (s * 2 ^ k) k d) ∙ ap (λ (q : ℕ). q / 2 ^ d) (shl-shr s k)
 
 -- the digits of a normal number's size, the leading one with them
-abbrev pub digits_of : Format → ℕ → ℕ
+abbrev digits_of : Format → ℕ → ℕ
 digits_of f m = hid f + m % hid f
 
 units-normal : (f : Format) (m : ℕ) → 1 ≤ m / hid f → units f m ≡ digits_of f m * 2 ^ (m / hid f - 1)
@@ -51,11 +54,11 @@ module _ (f : Format) (m d : ℕ) (normal : 1 ≤ m / hid f) (place : d + (m / h
   units-div = rw (units-normal f m normal, ← place) (shifted-div (digits_of f m) d (m / hid f - 1))
 
   -- from 1 on, below 2 ^ digits: the digits below the point, d of them, decide
-  pub kind-yes : digits_of f m % 2 ^ d ≡ 0 → (whole f m ≡ true) × (odd f m ≡ eqb (digits_of f m / 2 ^ d % 2) 1)
+  kind-yes : digits_of f m % 2 ^ d ≡ 0 → (whole f m ≡ true) × (odd f m ≡ eqb (digits_of f m / 2 ^ d % 2) 1)
   unfolding whole odd
   kind-yes z = (rw (units-mod, z, zero-mul) refl, rw (units-mod, units-div, z, zero-mul) refl)
 
-  pub kind-no : (digits_of f m % 2 ^ d ≡ 0 → ⊥) → (whole f m ≡ false) × (odd f m ≡ false)
+  kind-no : (digits_of f m % 2 ^ d ≡ 0 → ⊥) → (whole f m ≡ false) × (odd f m ≡ false)
   unfolding whole odd
   kind-no z =
       let e : eqb ((digits_of f m % 2 ^ d) * 2 ^ (m / hid f - 1)) 0 ≡ false =
@@ -97,14 +100,44 @@ kind-small f m held p h =
     (eq-zero-or-pos (m / hid f))
 
 -- what is shifted down and up again is the same exactly where no digit is lost
-pub back-yes : (w s d : ℕ) → s < 2 ^ w → s / 2 ^ d * 2 ^ d % 2 ^ w ≡ s → s % 2 ^ d ≡ 0
+back-yes : (w s d : ℕ) → s < 2 ^ w → s / 2 ^ d * 2 ^ d % 2 ^ w ≡ s → s % 2 ^ d ≡ 0
 back-yes w s d h e =
     let q = split s d in
     let r : s / 2 ^ d * 2 ^ d % 2 ^ w ≡ s / 2 ^ d * 2 ^ d = mod-eq_of_lt (omega arith) in
     omega arith
 
-pub back-no : (w s d : ℕ) → s < 2 ^ w → (s / 2 ^ d * 2 ^ d % 2 ^ w ≡ s → ⊥) → s % 2 ^ d ≡ 0 → ⊥
+back-no : (w s d : ℕ) → s < 2 ^ w → (s / 2 ^ d * 2 ^ d % 2 ^ w ≡ s → ⊥) → s % 2 ^ d ≡ 0 → ⊥
 back-no w s d h n z =
     let q = split s d in
     let r : s / 2 ^ d * 2 ^ d % 2 ^ w ≡ s / 2 ^ d * 2 ^ d = mod-eq_of_lt (omega arith) in
     n (omega arith)
+
+-- ---- the digits as the code finds them, from 1 on and below 2 ^ digits
+
+digits-small : (p e m : ℕ) → Held p e → 2 ^ (p - 1) + m % 2 ^ (p - 1) < 2 ^ 64
+digits-small p e m h = go (2 ^ (p - 1)) (m % 2 ^ (p - 1)) (room 2 p (omega arith) h.small) (mod-lt m (pow_pos (p - 1)))
+  where
+    go : (a b : ℕ) → 2 * a ≤ 2 ^ 63 → b < a → a + b < 2 ^ 64
+    go a b r l = omega arith
+
+module _ (f : Format) (m : ℕ) (held : Held f.digits f.emax) (least : f.emax ≤ m / hid f) (most : m / hid f < f.emax + f.digits) where
+  abbrev s : ℕ
+  s = bit_or (bit_and m (hid f - 1)) (hid f)
+
+  abbrev d : ℕ
+  d = f.emax + f.digits - 1 - m / hid f
+
+  normal : 1 ≤ m / hid f
+  normal = omega (arith, held.room, least)
+
+  place : d + (m / hid f - 1) ≡ low f
+  place = omega (arith, held.room, least, most)
+
+  pub point-whole : s / 2 ^ d * 2 ^ d % 2 ^ 64 ≡ s → (whole f m ≡ true) × (odd f m ≡ eqb (bit_and (s / 2 ^ d) 1) 1)
+  point-whole e =
+      let k = kind-yes f m d normal place (back-yes 64 (digits_of f m) d (digits-small f.digits f.emax m held) (rw (led (f.digits - 1) m) at e)) in
+      (k.0, rw (led (f.digits - 1) m, and_mask _ 1) k.1)
+
+  pub point-fraction : (s / 2 ^ d * 2 ^ d % 2 ^ 64 ≡ s → ⊥) → (whole f m ≡ false) × (odd f m ≡ false)
+  point-fraction n =
+      kind-no f m d normal place (back-no 64 (digits_of f m) d (digits-small f.digits f.emax m held) (rw (led (f.digits - 1) m) at n))

@@ -37,9 +37,9 @@ module _ {R : Type 0} (s : ℕ → R) (u : Bool → R) (f : Format) (x y : ℕ) 
   abbrev m : ℕ
   m = magnitude g y
 
-  pub plain-open : plain g x y ≡ true → sorted s u f x y ≡ u false
+  pub plain_open : plain g x y ≡ true → sorted s u f x y ≡ u false
   unfolding sorted sorted5 sorted6 sorted7
-  plain-open h =
+  plain_open h =
       let b = both (plain_base g x) (plain_exponent g y) h in
       let c = both (ltb 0 x) (ltb x (infinity g) && not (eqb x (one g))) b.0 in
       let d = both (ltb x (infinity g)) (not (eqb x (one g))) c.1 in

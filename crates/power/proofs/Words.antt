@@ -1,14 +1,12 @@
 -- Masks and shifts of words, as the code writes them, in plain arithmetic. Assumes nothing.
-use Prim.Native.Nat.{ℕ, suc, ◌+◌, ◌-◌, ◌*◌, ◌/◌, ◌%◌, ◌^◌, ◌<◌, ◌≤◌}
+use Prim.Native.Nat.{ℕ, ◌+◌, ◌-◌, ◌*◌, ◌/◌, ◌%◌, ◌^◌, ◌<◌, ◌≤◌}
 use mathlib.Core.Path.{◌≡◌, refl, sym, ap, ◌∙◌, subst}
 use mathlib.Core.Bool.{Bool, true, false, true≢false, ◌&&◌}
 use lib.Bits.{bit_and, bit_or, and_mask, and_high, or_shifted_r}
-use native.Mathlib.Nat.{mul-mod_left, mod-lt, lt_of_lt_of_le, lt_of_le_of_lt, div-mul-le_self, add_comm, mul_comm, one-mul, mod-eq_of_lt}
+use native.Mathlib.Nat.{mul-mod_left, mod-lt, lt_of_lt_of_le, lt_of_le_of_lt, div-mul-le_self, add_comm, one-mul, mod-eq_of_lt}
 use native.Mathlib.Omega.{arith}
 use lib.Pow.{mod-pow-add, shl-shr, shr_mod, shr_lt, pow_pos, pow_mono, pow-lt, pow-add, ones_split, ones_lt, high}
-use Rattle.words.specs.Format.{format, top}
 use Rattle.words.specs.Rounding.{Held}
-use Rattle.words.proofs.Digits.{room}
 
 -- the size of a word: of an f32, and of an f64
 pub size32 : (x : ℕ) → bit_and x 0x7fffffff ≡ x % 2 ^ 31
@@ -122,13 +120,3 @@ held32 = record { least = omega arith; small = omega arith; room = omega arith; 
 
 pub held64 : Held 53 1023
 held64 = record { least = omega arith; small = omega arith; room = omega arith; high = omega arith }
-
-pub top_small : (p e : ℕ) → Held p e → top (format p e) ≤ 2 ^ 63
-top_small p e h = subst (λ (n : ℕ). n ≤ 2 ^ 63) (mul_comm (suc (2 * e + 1)) (2 ^ (p - 1))) (room (suc (2 * e + 1)) p (omega (arith, h.high)) h.small)
-
--- the digits of a size, with the leading one
-pub digits-small : (p e m : ℕ) → Held p e → 2 ^ (p - 1) + m % 2 ^ (p - 1) < 2 ^ 64
-digits-small p e m h = go (2 ^ (p - 1)) (m % 2 ^ (p - 1)) (room 2 p (omega arith) h.small) (mod-lt m (pow_pos (p - 1)))
-  where
-    go : (a b : ℕ) → 2 * a ≤ 2 ^ 63 → b < a → a + b < 2 ^ 64
-    go a b r l = omega arith

@@ -82,6 +82,10 @@ told_settled w = record { number = done; settled = true; word = w; negative = fa
 abbrev pub told_open : Bool → Told
 told_open s = record { number = done; settled = false; word = 0; negative = s }
 
-abbrev pub told : Sorted → Told
-told (Settled w) = told_settled w
-told (Open s) = told_open s
+-- what an answer tells, by the number that each word is; and where the words are numbers
+abbrev pub told_by : {W : Type 0} → (W → ℕ) → Sorted W → Told
+told_by number (Settled w) = told_settled (number w)
+told_by number (Open s) = told_open s
+
+abbrev pub told : Sorted ℕ → Told
+told = told_by (λ w. w)

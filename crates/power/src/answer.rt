@@ -1,9 +1,9 @@
 // What the sorting answers, and what becomes of an open power.
 
-// The result's word, an f32's in the low half; or an open result's sign, true for negative.
+// The result's word; or an open result's sign, true for negative.
 #[derive(Clone, Copy)]
-pub enum Sorted {
-    Settled(u64),
+pub enum Sorted<W> {
+    Settled(W),
     Open(bool),
 }
 

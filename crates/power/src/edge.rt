@@ -1,92 +1,68 @@
-// Rules 4, 6 and 7 of the sorting, by sizes and signs, in the format of p digits and largest
-// exponent emax. A sign is true for negative: `minus` is that of x, `down` that of y.
-ghost use Rattle.std.specs.Prelude.{◌≡◌, true, ◌<◌};
-ghost use Rattle.words.specs.Format.{format, top};
-ghost use Rattle.words.specs.Rounding.{Held};
-ghost use Rattle.power.specs.Sorting.{at_infinity, turned, at_edge, on_edge, sorted7, told, told_settled, told_open};
+// Rules 4 and 6 of the sorting, by sizes and signs.
+ghost use Rattle.std.specs.Prelude.{◌≡◌, ◌<◌, ◌*◌};
+ghost use Rattle.words.specs.Format.{top};
+ghost use Rattle.power.specs.Sorting.{at_infinity, turned, at_edge, on_edge};
 
-use super::answer::Sorted;
-use super::kind::kind_of;
-use super::marks::{one_of, quiet_of, top_of};
-use words::weights::infinity_of;
+use super::kind::{Kind, kind_of};
+use super::operand::Operand;
+use words::format::Format;
 
-// Rule 4: a power to an infinity.
-pub fn infinite(p: u64, emax: u64, ix: u64, down: bool) -> u64
-    requires { Held p emax }
-    ensures { result ≡ at_infinity (format p emax) ix down }
+// Rule 4: a power to an infinity, which is below 0 where `down` is true.
+#[tactic(auto, unfolding(crate::specs::Sorting::at_infinity))]
+pub fn infinite(f: Format, ix: u64, down: bool) -> u64
+    ensures value { result ≡ at_infinity f ix down }
+    ensures bound { result < top f }
 {
-    let one = one_of(p, emax);
+    let one = f.one();
     if ix == one {
-        return one;
-    }
-    let infinity = infinity_of(p, emax);
-    if ix > one {
-        if down { 0 } else { infinity }
+        one
+    } else if (ix > one) == down {
+        0
     } else {
-        if down { infinity } else { 0 }
+        f.infinity()
     }
 }
 
 // Rule 6: the size 0, infinite or 1, or one divided by it.
-fn turn(p: u64, emax: u64, ix: u64, down: bool) -> u64
-    requires { (Held p emax) × (ix < top (format p emax)) }
-    ensures { (result ≡ turned (format p emax) ix down) × (result < top (format p emax)) }
+#[tactic(auto, unfolding(crate::specs::Sorting::turned))]
+fn turn(f: Format, ix: u64, down: bool) -> u64
+    requires { ix < top f }
+    ensures value { result ≡ turned f ix down }
+    ensures bound { result < top f }
 {
-    let infinity = infinity_of(p, emax);
-    if down {
-        if ix == 0 {
-            return infinity;
-        }
-        if ix == infinity {
-            return 0;
-        }
+    if !down {
+        ix
+    } else if ix == 0 {
+        f.infinity()
+    } else if ix == f.infinity() {
+        0
+    } else {
+        ix
     }
-    ix
 }
 
 // Rule 6 with its sign.
-pub fn edge(p: u64, emax: u64, ix: u64, minus: bool, iy: u64, down: bool) -> u64
-    requires { (Held p emax) × (ix < top (format p emax)) × (0 < iy) }
-    ensures { result ≡ at_edge (format p emax) ix minus iy down }
+#[tactic(auto, unfolding(crate::specs::Sorting::at_edge))]
+pub fn edge(f: Format, x: Operand, y: Operand) -> u64
+    requires size { x.size < top f }
+    requires some { 0 < y.size }
+    ensures value { result ≡ at_edge f x.size x.negative y.size y.negative }
+    ensures bound { result < 2 * top f }
 {
-    let z = turn(p, emax, ix, down);
-    if !minus {
+    let z = turn(f, x.size, y.negative);
+    if !x.negative {
         return z;
     }
-    let k = kind_of(p, emax, iy);
-    if k.odd {
-        return top_of(p, emax) + z;
+    match kind_of(f, y.size) {
+        Kind::Odd => f.top() + z,
+        Kind::Fraction if x.size == f.one() => f.quiet(),
+        _ => z,
     }
-    if !k.whole {
-        if ix == one_of(p, emax) {
-            return quiet_of(p, emax);
-        }
-    }
-    z
 }
 
 // Whether rule 6 is x's: its size is infinite, 0 or 1.
-pub fn is_edge(p: u64, emax: u64, ix: u64) -> bool
-    requires { Held p emax }
-    ensures { result ≡ on_edge (format p emax) ix }
+pub fn is_edge(f: Format, ix: u64) -> bool
+    ensures { result ≡ on_edge f ix }
 {
-    if ix == infinity_of(p, emax) {
-        return true;
-    }
-    if ix == 0 {
-        return true;
-    }
-    ix == one_of(p, emax)
-}
-
-// Rule 7, and the open pairs, for a negative x.
-pub fn sort_minus(p: u64, emax: u64, iy: u64) -> Sorted
-    requires { (Held p emax) × (0 < iy) }
-    ensures { told result ≡ sorted7 told_settled told_open (format p emax) true iy }
-{
-    let k = kind_of(p, emax, iy);
-    if !k.whole {
-        return Sorted::Settled(quiet_of(p, emax));
-    }
-    Sorted::Open(k.odd)
+    ix == f.infinity() || ix == 0 || ix == f.one()
 }

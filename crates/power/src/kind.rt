@@ -1,42 +1,38 @@
-// Whole numbers and odd ones, in the format of p digits and largest exponent emax.
+// Whole numbers and odd ones.
 ghost use Rattle.std.specs.Prelude.{◌≡◌, ◌<◌};
-ghost use Rattle.words.specs.Format.{format};
-ghost use Rattle.words.specs.Rounding.{Held};
-ghost use Rattle.power.specs.Numbers.{whole, odd};
+ghost use Rattle.power.specs.Numbers.{whole, odd, is_whole, is_odd};
 
-#[derive(Clone, Copy)]
-pub struct Kind {
-    pub whole: bool,
-    pub odd: bool,
+use words::format::Format;
+
+#[derive(Clone, Copy, Debug, PartialEq, Eq)]
+pub enum Kind {
+    Fraction,
+    Even,
+    Odd,
 }
 
-// Whether the size iy, finite and not 0, is a whole number, and an odd one: by its d digits below
-// the point, which are shifted out. From 2^p on every size is even, and below 1 none is whole.
-pub fn kind_of(p: u64, emax: u64, iy: u64) -> Kind
-    requires { (Held p emax) × (0 < iy) }
-    ensures { (result.whole ≡ whole (format p emax) iy) × (result.odd ≡ odd (format p emax) iy) }
+// What kind of number the size iy is, finite and not 0: by its d digits below the point, which are
+// shifted out. From 2^digits on every size is even, and below 1 none is whole.
+pub fn kind_of(f: Format, iy: u64) -> Kind
+    requires { 0 < iy }
+    ensures whole { is_whole result ≡ whole f iy }
+    ensures odd { is_odd result ≡ odd f iy }
 {
-    let field = iy >> (p - 1);
-    if field >= emax + p {
-        return Kind {
-            whole: true,
-            odd: false,
-        };
+    let digits = f.digits();
+    let emax = f.emax() as u64;
+    let field = iy >> (digits - 1);
+    if field >= emax + digits as u64 {
+        return Kind::Even;
     }
-    if field >= emax {
-        let hid: u64 = 1 << (p - 1);
-        let s = (iy & (hid - 1)) | hid;
-        let d = emax + p - 1 - field;
-        let j = s >> d;
-        if j << d == s {
-            return Kind {
-                whole: true,
-                odd: (j & 1) == 1,
-            };
-        }
+    if field < emax {
+        return Kind::Fraction;
     }
-    Kind {
-        whole: false,
-        odd: false,
+    let hid = f.hid();
+    let s = (iy & (hid - 1)) | hid;
+    let d = emax + digits as u64 - 1 - field;
+    let j = s >> d;
+    if j << d != s {
+        return Kind::Fraction;
     }
+    if j & 1 == 1 { Kind::Odd } else { Kind::Even }
 }

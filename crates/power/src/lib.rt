@@ -3,10 +3,9 @@
 #![tactic(auto)]
 
 pub mod answer;
-pub mod double;
 pub mod edge;
 pub mod kind;
-pub mod marks;
+pub mod operand;
 pub mod plain;
-pub mod single;
+pub mod sort;
 pub mod unbiased;

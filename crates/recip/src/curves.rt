@@ -1,5 +1,5 @@
-// The table of first approximations, as a `match`: an array would be built anew at each call, and this
-// becomes a table of constants. Written by tools/curves.
+// The table of first approximations, as a `match`, which becomes a table of constants: read from a `static`
+// array, f64 roots took up to an eighth more time. Written by tools/curves.
 ghost use Rattle.std.specs.Prelude.{◌<◌};
 ghost use Rattle.recip.specs.Reciprocal.{Entry};
 

@@ -10,13 +10,13 @@ use lib.Signed.{shr_z}
 use lib.Pow.{pow_pos, pow_mono, pow-add}
 use lib.Bits.{bit_and, and_mask}
 use borrow.Author.Tests.{eq-eqb, ne_eqb, lt-ltb, le-ltb}
-use Rattle.words.specs.Format.{ones, Format, format, hid, top, infinity, quiet, units, units_at}
+use Rattle.words.specs.Format.{Format, format, hid, top, infinity, quiet, units, units_at}
 use Rattle.root.specs.Partial.{partial_root, refused}
 use Rattle.words.specs.Refusal.{done, not_positive, too_many_rounds}
 use Rattle.words.proofs.Digits.{one_shl}
 use Rattle.words.proofs.Words.{infinity-some, infinity-below, quiet-below, below-fits}
 use Rattle.root.specs.Root.{left_at, digits_at, whole_of, lifted, root_at, root_word, halves, whole, exponent_of, significand}
-use Rattle.root.specs.Engine.{odd_z, Split, Rounds, Asked, Shifts, Ready}
+use Rattle.root.specs.Engine.{odd_z, Split, Rounds, Asked, Shifts}
 use Rattle.words.specs.Rounding.{Held}
 use Rattle.root.proofs.Roots.{digits-unique, near}
 use Rattle.root.proofs.Operands.{halves-is, whole_is, shifts-few, shifted-value, parts_are, sub-shift, operand-split}
@@ -151,6 +151,19 @@ exponent-fits p h small high = omega (arith, mul-le-mul_left h cap)
 pub held-fine : (p e : ℕ) → Held p e → Fine (format p e)
 held-fine p e h = record { least = h.least; room = h.room }
 
+-- w and half are the parts of a positive finite operand, half being h less b
+pub record Ready (p b w h : ℕ) (half : ℤ) : Type 0 where
+  pub above : 2 ^ p ≤ 2 * w
+  pub below : w + 1 < 2 ^ (p + 1)
+  pub least : 1 ≤ p
+  pub small : p ≤ 53
+  pub bias : b < 2 ^ 11
+  pub high : h < 2 ^ 11
+  pub is : half ≡ sub_ℕ h b
+
+pub ready-asked : {p b w h : ℕ} {half : ℤ} → Ready p b w h half → Asked p w (p + 1)
+ready-asked r = record { small = omega (arith, r.small); above = r.above; below = omega (arith, r.below); rounds = omega arith }
+
 -- the parts of a positive finite word, ready for its root
 pub ready : (p e x w : ℕ) (half : ℤ) → Held p e → 0 < x → x < infinity (format p e)
     → w ≡ whole p (lifted (format p e) (units (format p e) x)) → half ≡ exponent_of (format p e) (lifted (format p e) (units (format p e) x))
@@ -187,30 +200,34 @@ module _ (f : Format) (x k : ℕ) where
   unfolding partial_root
   partial-done a b h = rw (lt-ltb 0 x a, lt-ltb x (infinity f) b, le-ltb (f.digits + 1) k h)
 
--- the two -0 and NaN words, by what the code adds to infinity
-pub minus-zero : (f : Format) (x : ℕ) → x ≡ infinity f + hid f → x % top f ≡ 0
-minus-zero f x e = ap (λ (z : ℕ). z % top f) (e ∙ sum (hid f) (ones f)) ∙ mod_self (top f)
-  where
-    sum : (h n : ℕ) → n * h + h ≡ h * suc n
-    sum h n = omega arith
+-- ---- a word that is no positive finite number, by what it is equal to
 
-pub not-zero : (f : Format) (x : ℕ) → x < 2 * top f → infinity f < x → ¬ (x ≡ infinity f + hid f) → ¬ (x % top f ≡ 0)
-not-zero f x h l n e = elim (dec_lt x (top f)) [
-  | yes a ↦ none x (infinity f) (sym (mod-eq_of_lt a) ∙ e) l
-  | no a ↦ n (same x (hid f) (ones f) (at_least x (top f) a) (sym (mod-eq_of_lt (less x (top f) a h)) ∙ sym (mod-eq-sub-mod (at_least x (top f) a)) ∙ e))
-]
-  where
-    none : (x i : ℕ) → x ≡ 0 → i < x → ⊥
-    none x i e l = omega arith
+module _ (f : Format) (x : ℕ) where
+  pub special-zero : x ≡ 0 → x ≡ root_word f x
+  special-zero e = sym (root-zero f x (ap (λ (z : ℕ). z % top f) e ∙ zero-mod (top f)))
 
-    at_least : (a b : ℕ) → ¬ (a < b) → b ≤ a
-    at_least a b k = omega arith
+  pub special-infinity : x ≡ infinity f → x ≡ root_word f x
+  special-infinity e = sym (root-infinity f x (below_top x (top f) (omega (arith, e, infinity-below f)) (λ z. omega (arith, e, infinity-some f))) e)
 
-    less : (a b : ℕ) → ¬ (a < b) → a < 2 * b → a - b < b
-    less a b k l = omega arith
+  -- the sign alone is -0
+  pub special-minus : x ≡ top f → x ≡ root_word f x
+  special-minus e = sym (root-zero f x (ap (λ (z : ℕ). z % top f) e ∙ mod_self (top f)))
 
-    same : (x h n : ℕ) → h * suc n ≤ x → x - h * suc n ≡ 0 → x ≡ n * h + h
-    same x h n l e = omega (arith, l, e)
+  pub special-nan : x < 2 * top f → (0 < x → infinity f ≤ x) → ¬ (x ≡ 0) → ¬ (x ≡ infinity f) → ¬ (x ≡ top f) → root_word f x ≡ quiet f
+  special-nan h above z i t = root-nan f x (not-zero (dec_lt x (top f))) (omega (arith, above (omega (arith, z)), i))
+    where
+      less : ¬ (x < top f) → x - top f < top f
+      less k = omega (arith, h)
+
+      at_least : ¬ (x < top f) → top f ≤ x
+      at_least k = omega arith
+
+      same : top f ≤ x → x - top f ≡ 0 → x ≡ top f
+      same l e = omega (arith, l, e)
+
+      not-zero : Dec (x < top f) → ¬ (x % top f ≡ 0)
+      not-zero (yes l) e = z (sym (mod-eq_of_lt l) ∙ e)
+      not-zero (no l) e = t (same (at_least l) (sym (mod-eq_of_lt (less l)) ∙ sym (mod-eq-sub-mod (at_least l)) ∙ e))
 
 -- the root of a positive finite word is one
 pub root_below : (f : Format) (x : ℕ) → Fine f → f.digits ≤ 60 → 0 < x → x < infinity f → root_at f (lifted f (units f x)) < infinity f

@@ -1,6 +1,5 @@
 -- What the private functions ask and promise: the engine by inequalities, the operand's parts by their range. Definitions only.
 use Rattle.std.specs.Prelude.{ℕ, ◌+◌, ◌-◌, ◌*◌, ◌/◌, ◌%◌, ◌^◌, ◌≤◌, ◌<◌, ◌≡◌, ℤ, pos, negsuc}
-use Rattle.std.proofs.Math.IntN.{sub_ℕ}
 use Rattle.words.specs.Rounding.{Held}
 
 -- ---- the engines
@@ -35,16 +34,6 @@ pub record Split (p v w h : ℕ) : Type 0 where
   pub value : w * 4 ^ h ≡ v
   pub above : 2 ^ p ≤ 2 * w
   pub below : w + 1 < 2 ^ (p + 1)
-
--- w and half are the parts of a positive finite operand, half being h less b
-pub record Ready (p b w h : ℕ) (half : ℤ) : Type 0 where
-  pub above : 2 ^ p ≤ 2 * w
-  pub below : w + 1 < 2 ^ (p + 1)
-  pub least : 1 ≤ p
-  pub small : p ≤ 53
-  pub bias : b < 2 ^ 11
-  pub high : h < 2 ^ 11
-  pub is : half ≡ sub_ℕ h b
 
 -- ---- the table engine
 

@@ -2,16 +2,37 @@
 ghost use Rattle.std.specs.Prelude.{◌≡◌, ◌*◌, ◌^◌, ◌<◌, ◌≤◌};
 ghost use Rattle.std.proofs.Math.IntN.{sub_ℕ};
 ghost use Rattle.std.specs.Int.Signed.{shr_z};
-ghost use Rattle.words.specs.Format.{format, units, infinity};
-ghost use Rattle.words.specs.Rounding.{Held};
+ghost use Rattle.words.specs.Format.{units, infinity};
 ghost use Rattle.root.specs.Root.{lifted, whole, exponent_of};
 ghost use Rattle.root.specs.Engine.{Shifts, odd_z};
+
+use words::format::Format;
 
 // w * 2^(1-p) * 4^half
 #[derive(Clone, Copy)]
 pub struct Parts {
     pub w: u64,
     pub half: i32,
+}
+
+impl Parts {
+    // W and E of a positive finite word x.
+    pub fn of(f: Format, x: u64) -> Parts
+        requires { (0 < x) × (x < infinity f) }
+        ensures w_value { result.w ≡ whole f.digits (lifted f (units f x)) }
+        ensures half_value { result.half ≡ exponent_of f (lifted f (units f x)) }
+    {
+        let p = f.digits();
+        let hid = f.hid();
+        let field = (x >> (p - 1)) as u32;
+        let t = x & (hid - 1);
+        if field == 0 {
+            let s = shift_up(t, p);
+            halve(t << s, unbiased(1, f.emax() + s))
+        } else {
+            halve(hid + t, unbiased(field, f.emax()))
+        }
+    }
 }
 
 // How far m is to be shifted up to have p digits; a number of p digits has 64 - p leading zeros.
@@ -36,26 +57,6 @@ fn halve(m: u64, e: i32) -> Parts
     ensures w_value { result.w ≡ m * 2 ^ odd_z e }
     ensures half_value { result.half ≡ shr_z e 2 }
 {
-    let mut w = m;
-    if e % 2 != 0 {
-        w = m + m;
-    }
-    Parts { w: w, half: e >> 1 }
-}
-
-// W and E of a positive finite word x of p digits.
-pub fn parts_of(x: u64, p: u32, emax: u32) -> Parts
-    requires { Held p emax × (0 < x) × (x < infinity (format p emax)) }
-    ensures w_value { result.w ≡ whole p (lifted (format p emax) (units (format p emax) x)) }
-    ensures half_value { result.half ≡ exponent_of (format p emax) (lifted (format p emax) (units (format p emax) x)) }
-{
-    let hid: u64 = 1 << (p - 1);
-    let field = (x >> (p - 1)) as u32;
-    let t = x & (hid - 1);
-    if field == 0 {
-        let s = shift_up(t, p);
-        halve(t << s, unbiased(1, emax + s))
-    } else {
-        halve(hid + t, unbiased(field, emax))
-    }
+    let w = if e % 2 != 0 { m + m } else { m };
+    Parts { w, half: e >> 1 }
 }

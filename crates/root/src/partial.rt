@@ -1,15 +1,52 @@
-// The root after some of its rounds, over the format.
+// The root after some of its rounds.
 ghost use Rattle.std.specs.Prelude.{◌≡◌};
-ghost use Rattle.words.specs.Format.{format};
-ghost use Rattle.words.specs.Rounding.{Held};
-ghost use Rattle.root.specs.Partial.{partial_root, refused};
+ghost use Rattle.words.specs.Format.{ours};
+ghost use Rattle.root.specs.Partial.{laid, partial_root};
 
-use super::operand::parts_of;
+use super::operand::Parts;
 use super::rounds::digit_rounds;
-use words::refusal::{DONE, NOT_POSITIVE, TOO_MANY_ROUNDS};
-use words::weights::infinity_of;
+use words::format::Format;
+use words::refusal::{DONE, Refusal};
+use words::width::Width;
+use words::word::Word;
 
-// A refusal number, Q, the left-over, and the rounds that were run.
+// Q, the left-over, and the rounds that were run.
+#[derive(Clone, Copy)]
+pub struct Partial {
+    pub digits: u64,
+    pub left: u64,
+    pub rounds: u32,
+}
+
+// The first k digits of the root of a word x of f.
+pub fn partial_of(f: Format, x: u64, k: u32) -> Result<Partial, Refusal>
+    ensures { laid result ≡ partial_root f x k }
+{
+    if x == 0 || f.infinity() <= x {
+        return Err(Refusal::NotPositive);
+    }
+    let p = f.digits();
+    if p + 1 < k {
+        return Err(Refusal::TooManyRounds);
+    }
+    let o = Parts::of(f, x);
+    let d = digit_rounds(o.w, p, k);
+    Ok(Partial {
+        digits: d.digits,
+        left: d.left,
+        rounds: k,
+    })
+}
+
+// The first k digits of the root of a word of a width.
+pub fn partial_root<F: Width>(x: F::Word, k: u32) -> Result<Partial, Refusal>
+    ensures { laid result ≡ partial_root (ours F.format) (F.Word.number x) k }
+{
+    partial_of(F::format(), x.wide(), k)
+}
+
+// A partial root as C sees it, where a Result cannot go: a refusal number, Q, the left-over, and the rounds
+// that were run; zeros beside the number of a refusal.
 #[repr(C)]
 #[derive(Clone, Copy)]
 pub struct PartialRoot {
@@ -19,39 +56,23 @@ pub struct PartialRoot {
     pub rounds: u32,
 }
 
-// A refused partial root: zeros beside the number.
-fn refusal_of(number: u32) -> PartialRoot
-    ensures { result ≡ refused number }
-{
-    PartialRoot {
-        number,
-        digits: 0,
-        left: 0,
-        rounds: 0,
-    }
-}
+impl From<Result<Partial, Refusal>> for PartialRoot {
+    ghost from_gives = { λ r p. p ≡ laid r };
 
-// The first k digits of the root of a word x of p digits.
-pub fn partial_root(x: u64, p: u32, emax: u32, k: u32) -> PartialRoot
-    requires { Held p emax }
-    ensures { result ≡ partial_root (format p emax) x k }
-{
-    if x == 0 {
-        return refusal_of(NOT_POSITIVE);
-    }
-    if infinity_of(p as u64, emax as u64) <= x {
-        return refusal_of(NOT_POSITIVE);
-    }
-    if p + 1 < k {
-        return refusal_of(TOO_MANY_ROUNDS);
-    }
-    let o = parts_of(x, p, emax);
-    let w = o.w;
-    let d = digit_rounds(w, p, k);
-    PartialRoot {
-        number: DONE,
-        digits: d.digits,
-        left: d.left,
-        rounds: k,
+    fn from(r: Result<Partial, Refusal>) -> PartialRoot {
+        match r {
+            Ok(p) => PartialRoot {
+                number: DONE,
+                digits: p.digits,
+                left: p.left,
+                rounds: p.rounds,
+            },
+            Err(refusal) => PartialRoot {
+                number: refusal.number(),
+                digits: 0,
+                left: 0,
+                rounds: 0,
+            },
+        }
     }
 }

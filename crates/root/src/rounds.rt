@@ -19,8 +19,7 @@ pub fn digit_rounds(w: u64, p: u32, k: u32) -> Digits
     let mut left = w + w;
     let mut s: u64 = 0;
     let mut r: u64 = 1 << (p + 1);
-    let mut i: u32 = 0;
-    while i < k {
+    for _ in 0..k {
         r = r >> 1;
         let t = s + r;
         if s + (r - 1) < left {
@@ -28,10 +27,9 @@ pub fn digit_rounds(w: u64, p: u32, k: u32) -> Digits
             s = t + r;
         }
         left = left + left;
-        i += 1;
     }
     Digits {
         digits: s >> (p + 2 - k),
-        left: left,
+        left,
     }
 }

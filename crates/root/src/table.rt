@@ -17,29 +17,31 @@ struct Operand {
     place: u64,
 }
 
-// A positive finite f64 word x, lifted so that no exponent is negative. Of a normal number the place is the
-// last digit of the exponent's field and the eight digits that follow it.
-fn operand_of(x: u64) -> Operand
-    requires { (0 < x) × (x < infinity binary64) }
-    ensures normalised { Normalised 53 result.m result.n (lifted binary64 (units binary64 x)) }
-    ensures n_bound { (result.n < 2 ^ 12) × (result.place ≡ place_of result.m (result.n % 2)) }
-{
-    let field = x >> 52;
-    let t = x & 0xf_ffff_ffff_ffff;
-    if field == 0 {
-        let s = shift_up(t, 53);
-        let m = t << s;
-        let n = (1022 - s) as u64;
-        Operand {
-            m: m,
-            n: n,
-            place: ((m >> 44) & 0xff) + (1 - (n & 1)) * 0x100,
-        }
-    } else {
-        Operand {
-            m: 0x10_0000_0000_0000 + t,
-            n: field + 1021,
-            place: (x >> 44) & 0x1ff,
+impl Operand {
+    // A positive finite f64 word x, lifted so that no exponent is negative. Of a normal number the place is the
+    // last digit of the exponent's field and the eight digits that follow it.
+    fn of(x: u64) -> Operand
+        requires { (0 < x) × (x < infinity binary64) }
+        ensures normalised { Normalised 53 result.m result.n (lifted binary64 (units binary64 x)) }
+        ensures n_bound { (result.n < 2 ^ 12) × (result.place ≡ place_of result.m (result.n % 2)) }
+    {
+        let field = x >> 52;
+        let t = x & 0xf_ffff_ffff_ffff;
+        if field == 0 {
+            let s = shift_up(t, 53);
+            let m = t << s;
+            let n = (1022 - s) as u64;
+            Operand {
+                m,
+                n,
+                place: ((m >> 44) & 0xff) + (1 - (n & 1)) * 0x100,
+            }
+        } else {
+            Operand {
+                m: 0x10_0000_0000_0000 + t,
+                n: field + 1021,
+                place: (x >> 44) & 0x1ff,
+            }
         }
     }
 }
@@ -75,20 +77,17 @@ struct AllRounds {
     half: u64,
 }
 
-// All 54 rounds of a positive finite f64 word x.
+// All 54 rounds of a positive finite f64 word x, with the left-over, which flags will need.
 fn all_rounds(x: u64) -> AllRounds
     requires { (0 < x) × (x < infinity binary64) }
     ensures rounds { Rounds 53 (whole_of binary64 x) 54 result.digits result.left }
     ensures half_value { result.half ≡ halves 53 (lifted binary64 (units binary64 x)) }
 {
-    let o = operand_of(x);
-    let m = o.m;
-    let n = o.n;
-    let place = o.place;
-    let d = table_rounds(m, n & 1, place);
+    let Operand { m, n, place } = Operand::of(x);
+    let Digits { digits, left } = table_rounds(m, n & 1, place);
     AllRounds {
-        digits: d.digits,
-        left: d.left,
+        digits,
+        left,
         half: n >> 1,
     }
 }
@@ -99,7 +98,5 @@ pub fn table_root(x: u64) -> u64
     ensures { result ≡ root_at binary64 (lifted binary64 (units binary64 x)) }
 {
     let a = all_rounds(x);
-    let q = a.digits;
-    let half = a.half;
-    (half << 52) + ((q + 1) >> 1)
+    (a.half << 52) + ((a.digits + 1) >> 1)
 }

@@ -2,8 +2,29 @@
 // values among them, and exponents at the edges of scaling.
 #![tactic(auto)]
 
+// A word of a width.
+pub trait Samples: Copy + Into<u64> + 'static {
+    // How many hexadecimal digits it has.
+    const DIGITS: usize;
+
+    // The operands.
+    const WORDS: &'static [Self];
+}
+
+impl Samples for u32 {
+    const DIGITS: usize = 8;
+
+    const WORDS: &'static [u32] = &SINGLES;
+}
+
+impl Samples for u64 {
+    const DIGITS: usize = 16;
+
+    const WORDS: &'static [u64] = &DOUBLES;
+}
+
 // f32 words.
-pub const SINGLES: [u32; 32] = [
+const SINGLES: [u32; 32] = [
     0x00000000, 0x80000000, 0x00000001, 0x80000001, 0x00000003, 0x007fffff, 0x00800000, 0x00800001,
     0x33800000, 0x3e99999a, 0x3f000000, 0x3f7fffff, 0x3f800000, 0x3f800001, 0x3fc00000, 0x40000000,
     0x40400000, 0x41200000, 0x42f60000, 0x4b7fffff, 0x4b800000, 0x7f7fffff, 0x7f800000, 0x7f800001,
@@ -11,7 +32,7 @@ pub const SINGLES: [u32; 32] = [
 ];
 
 // f64 words.
-pub const DOUBLES: [u64; 32] = [
+const DOUBLES: [u64; 32] = [
     0x0000000000000000,
     0x8000000000000000,
     0x0000000000000001,

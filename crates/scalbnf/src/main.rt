@@ -3,28 +3,10 @@
 #![tactic(auto)]
 
 use std::io;
-use std::io::Print;
+use stdio::answer_pieces;
+use stream::records::scalbn_bytes;
 
-// One piece of 2048 records: read until it is full or the input ends, so that only the last piece
-// can be cut off, however the input is delivered. Returns whether to go on: a short piece is the
-// last, and a failed read or write ends the program with its error.
-fn piece(rt: &HostRuntime) -> io::Result<bool> {
-    let mut input = [0u8; 16384];
-    let got = stdio::read_full(rt, &mut input);
-    let n = got.count;
-    let mut out = [0u8; 8192];
-    let m = stream::single::scalbnf_bytes(&input[..n], &mut out);
-    rt.write_all(&out[..m])?;
-    got.ended?;
-    Ok(n == 16384)
-}
-
-// A proved loop has to end, and nothing says that the input does: no input has this many pieces.
+// In pieces of 2048 records.
 fn main(rt: HostRuntime) -> io::Result<()> {
-    for _ in 0..u64::MAX {
-        if !piece(&rt)? {
-            return Ok(());
-        }
-    }
-    Ok(())
+    answer_pieces::<16384, 8192, _>(&rt, scalbn_bytes::<f32>)
 }

@@ -1,16 +1,16 @@
 -- The word whose exponent's field alone is emax + n is the float 2 ^ n, for an n from 1 - emax to emax, and what the machine's sum, cast and shift to it ask. Assumes nothing.
-use mathlib.Core.Path.{◌≡◌, refl, sym, ap, ◌∙◌, subst}
+use mathlib.Core.Path.{◌≡◌, refl, ap, ◌∙◌}
 use Prim.Native.Nat.{ℕ, suc, ◌+◌, ◌-◌, ◌*◌, ◌/◌, ◌%◌, ◌^◌, ◌≤◌, ◌<◌}
 use native.Mathlib.Nat.{mul_comm, mul-le-mul_right, mul-lt-mul_of_pos_right, mul-div_cancel, mul-mod_left, mod-eq_of_lt, lt_of_lt_of_le, le_trans, le_of_eq, le_of_lt}
 use native.Mathlib.Omega.{arith}
 use mathlib.Core.Bool.{Bool, true, false, not, cond}
-use lib.Dec.{T, leb, ltb, ltb→lt, leb→le, nleb→lt}
+use lib.Dec.{T, lit≤, leb, ltb, ltb→lt, leb→le, nleb→lt}
 use lib.Arith.{lt→nleb}
 use lib.Pow.{pow_pos}
 use lib.IntN.{ℤ, pos, negsuc, ◌+ℤ◌, nat_abs}
-use lib.Signed.{non_neg, ◌≤ℤ◌}
-use mir.Syntax.{Width}
-use mir.Val.{SFits, hbits, to_z, of_z}
+use lib.Signed.{◌≤ℤ◌}
+use mir.Syntax.{w32}
+use mir.Val.{to_z, of_z}
 use mir.ValLaws.{to_z-of_z}
 use lib.Ieee.{fin, Format, binary32, binary64, prec, emax, low, hid, ones, top, minus, odd, nan_bits, of_bits, of_fields}
 use lib.Ieee.Fits.{two, reach}
@@ -100,27 +100,20 @@ power-field f (negsuc a) lo hi =
     no : (e p a : ℕ) → 2 ≤ p → suc (suc a) ≤ e → e + p - 2 ≤ e - suc (suc a) + (p - 1) → ⊥
     no e p a x l h = omega arith
 
--- ---- the same of what the machine holds of the sum, z; it goes into a word of the width W = 2 ^ bits
-pub record Field (f : Format) (w : Width) (n z : ℤ) : Type 0 where
-  pub sum_fits : SFits w (pos (emax f) +ℤ n)
-  pub not_negative : T (non_neg z)
-  pub within : nat_abs z < ones f
-  pub number : (W : ℕ) → top f ≤ W → T (not (nan_bits f (nat_abs z * hid f % W)))
-  pub is-power : (W : ℕ) → top f ≤ W → of_bits f (nat_abs z * hid f % W) ≡ power n
+-- ---- the same of what the machine holds of the sum, whose field goes into 64 digits
+few : (f : Format) → ones f ≤ 2 ^ 31
+few binary32 = lit≤ tt
+few binary64 = lit≤ tt
 
-pub field_of : (f : Format) (w : Width) (n : ℤ) → ones f ≤ 2 ^ hbits w → negsuc (emax f - 2) ≤ℤ n → n ≤ℤ pos (emax f) → Field f w n (to_z w (of_z w (pos (emax f) +ℤ n)))
-field_of f w n O lo hi =
+wide : (f : Format) → top f ≤ 2 ^ 64
+wide binary32 = lit≤ tt
+wide binary64 = lit≤ tt
+
+pub field-word : (f : Format) (n : ℤ) (b : ℕ) → negsuc (emax f - 2) ≤ℤ n → n ≤ℤ pos (emax f) → b ≡ nat_abs (to_z w32 (of_z w32 (pos (emax f) +ℤ n))) * hid f % 2 ^ 64 → (nan_bits f b ≡ false) × (of_bits f b ≡ power n)
+field-word f n b lo hi e =
     let F = power-field f n lo hi in
     let k = F.0 in
-    let fit : SFits w (pos (suc k)) = record { sfits = lt_of_lt_of_le F.2 O } in
-    let z : to_z w (of_z w (pos (emax f) +ℤ n)) ≡ pos (suc k) = ap (λ (x : ℤ). to_z w (of_z w x)) F.1 ∙ to_z-of_z w (pos (suc k)) fit in
+    let z : to_z w32 (of_z w32 (pos (emax f) +ℤ n)) ≡ pos (suc k) = ap (λ (x : ℤ). to_z w32 (of_z w32 x)) F.1 ∙ to_z-of_z w32 (pos (suc k)) (record { sfits = lt_of_lt_of_le F.2 (few f) }) in
     let under = field-under f k F.2 in
-    let bits : (W : ℕ) → top f ≤ W → suc k * hid f % W ≡ suc k * hid f = λ W h. mod-eq_of_lt (lt_of_lt_of_le under h) in
-    let at : Field f w n (pos (suc k)) = record {
-      sum_fits = subst (SFits w) (sym F.1) fit;
-      not_negative = tt;
-      within = F.2;
-      number = λ W h. subst (λ (b : ℕ). T (not (nan_bits f b))) (sym (bits W h)) (word_number f (suc k * hid f) (le_trans (le_of_eq (mod-eq_of_lt under)) (mul-le-mul_right (hid f) (le_of_lt F.2))));
-      is-power = λ W h. ap (of_bits f) (bits W h) ∙ F.3;
-    } in
-    subst (λ (x : ℤ). Field f w n x) (sym z) at
+    let a : b ≡ suc k * hid f = e ∙ ap (λ (x : ℤ). nat_abs x * hid f % 2 ^ 64) z ∙ mod-eq_of_lt (lt_of_lt_of_le under (wide f)) in
+    (ap (nan_bits f) a ∙ is_false (nan_bits f (suc k * hid f)) (word_number f (suc k * hid f) (le_trans (le_of_eq (mod-eq_of_lt under)) (mul-le-mul_right (hid f) (le_of_lt F.2)))), ap (of_bits f) a ∙ F.3)

@@ -5,13 +5,13 @@ use Prim.Native.Nat.{ℕ, zero, suc, ◌+◌, ◌*◌, ◌/◌, ◌%◌, ◌^◌
 use native.Mathlib.Nat.{eq-zero-or-pos, le_of_lt, lt_irrefl, lt_of_le_of_lt, lt_trans, div-add-mod'}
 use native.Mathlib.Omega.{arith}
 use mathlib.Core.Bool.{Bool, true, false, not, cond}
-use lib.Dec.{T, T_not, leb, eqb, ltb→lt, nltb→le, lit≤}
+use lib.Dec.{T, leb, ltb→lt, nltb→le, lit≤}
 use lib.IntN.{ℤ, pos, negsuc}
 use lib.Signed.{lt_z}
 use lib.Ieee.{Float, nan, inf, fin, Format, binary32, binary64, emax, low, mul, of_bits, to_bits, fits}
 use lib.Ieee.Bits.{of_bits-fits}
 use lib.Ieee.Exact.{HasValue}
-use lib.Ieee.Fits.{two, eq→eqb}
+use lib.Ieee.Fits.{two}
 use Rattle.words.specs.Format.{top, infinity, signed, units, ours}
 use Rattle.words.proofs.Floats.{word-val}
 use Rattle.words.proofs.Round.{to_bits_inf}
@@ -39,8 +39,8 @@ to-zero f nan s a n F v h = absurd v
 to-zero f (inf t) s a n F v h = absurd v
 to-zero f (fin t m e) s a n F v h = let k = held f (fin t m e) F in far-down f (fin t m e) t (k.0 * 2 ^ k.1) n k.4 k.3 h ∙ ap (λ (b : Bool). fin b 0 (pos 0)) v.0
 
--- ix is the size's word, tested to be neither zero nor an infinity
-module _ (f : Format) (w ix : ℕ) (W : w < 2 * top (ours f)) (e : ix ≡ w % top (ours f)) (number : w % top (ours f) ≤ infinity (ours f)) (some : ix ≡ 0 → ⊥) (finite : eqb ix (infinity (ours f)) ≡ false) where
+-- the size is neither zero nor an infinity
+module _ (f : Format) (w : ℕ) (W : w < 2 * top (ours f)) (some : w % top (ours f) ≡ 0 → ⊥) (finite : w % top (ours f) < infinity (ours f)) where
   abbrev t : ℕ
   t = top (ours f)
 
@@ -51,20 +51,14 @@ module _ (f : Format) (w ix : ℕ) (W : w < 2 * top (ours f)) (e : ix ≡ w % to
       same a b m w x y = omega arith
 
   counted : 0 < units (ours f) (w % t)
-  counted = go (w % t) (λ (z : w % t ≡ 0). some (e ∙ z))
+  counted = go (w % t) some
     where
       go : (m : ℕ) → (m ≡ 0 → ⊥) → 0 < units (ours f) m
       go zero h = absurd (h refl)
       go (suc m) h = lt_of_le_of_lt zero-le (units-step (ours f) (lt_trans (lit≤ tt) (two f)) m)
 
-  pub below-infinity : w % t < infinity (ours f)
-  below-infinity = below (w % t) (infinity (ours f)) number (λ (z : w % t ≡ infinity (ours f)). T_not (eqb ix (infinity (ours f))) (subst (λ (b : Bool). T (not b)) (sym finite) tt) (eq→eqb (e ∙ z)))
-    where
-      below : (m i : ℕ) → m ≤ i → (m ≡ i → ⊥) → m < i
-      below m i h n = omega arith
-
   value : HasValue (of_bits f w) (leb t w) (units (ours f) (w % t)) (2 ^ low f)
-  value = word-val f w below-infinity
+  value = word-val f w finite
 
   pub limit-up : (n : ℤ) → Beyond f n → lt_z (pos 0) n ≡ true → w / t * t + infinity (ours f) ≡ scaled (ours f) w n
   limit-up (pos a) (inl l) u =

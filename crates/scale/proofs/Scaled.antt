@@ -1,8 +1,8 @@
 -- `scaled` is the word of the kit's product with a power of two. Assumes nothing.
 use mathlib.Core.Path.{◌≡◌, subst, refl, sym, ap, ◌∙◌}
 use mathlib.Core.Logic.{◌⊎◌, inl, inr}
-use Prim.Native.Nat.{ℕ, ◌+◌, ◌-◌, ◌*◌, ◌/◌, ◌%◌, ◌^◌, ◌≤◌, ◌<◌}
-use native.Mathlib.Nat.{one-mul, mul_assoc, mul-pos, mod-eq_of_lt, lt_trans, lt_of_le_of_lt, zero-add, div-add-mod', mod-lt}
+use Prim.Native.Nat.{ℕ, ◌+◌, ◌-◌, ◌*◌, ◌/◌, ◌%◌, ◌^◌, ◌≤◌, ◌<◌, zero-le}
+use native.Mathlib.Nat.{one-mul, mul-le-mul_right, div-lt_iff_lt-mul, le_of_suc-le-suc, mul_assoc, mul-pos, mod-eq_of_lt, lt_trans, lt_of_le_of_lt, zero-add, div-add-mod', mod-lt}
 use native.Mathlib.Omega.{arith}
 use mathlib.Core.Bool.{Bool, true, false, not, cond}
 use lib.Dec.{T, leb, ltb, eqb, ltb→lt, nltb→le, eqb→eq, T_not}
@@ -13,7 +13,7 @@ use lib.IntN.{ℤ}
 use lib.Ieee as Ieee
 use borrow.Author.Tests.{lt-ltb, le-ltb, eq-eqb, ne_eqb}
 use lib.Ieee.Bits.{is_false, nan_bits_is}
-use lib.Ieee.{is_nan, nan_bits, Float, up, down, mul, of_bits, to_bits}
+use lib.Ieee.{binary32, binary64, is_nan, nan_bits, Float, up, down, mul, of_bits, to_bits}
 use lib.Ieee.Fits.{eq→eqb, down_pos}
 use lib.Ieee.Exact.{HasValue}
 use Rattle.words.specs.Format.{Format, top, infinity, quiet, signed, units, ours}
@@ -129,6 +129,23 @@ sign-alone k x h = and_high x 1 k ∙ ap (λ (z : ℕ). z * 2 ^ k) (shr_mod 1 k 
 
 pub sign-before : (k x s : ℕ) → x < 2 ^ (1 + k) → s < 2 ^ k → bit_or (bit_and x (2 ^ (1 + k) - 2 ^ k)) s ≡ x / 2 ^ k * 2 ^ k + s
 sign-before k x s h l = ap (λ (z : ℕ). bit_or z s) (sign-alone k x h) ∙ or_shifted (x / 2 ^ k) k s l
+
+-- the same at each format, of what the machine holds of the word, the sign's weight and the size
+pub sign_of : (f : Ieee.Format) (x : ℕ) → x < 2 * top (ours f) → bit_and x (top (ours f)) ≡ x / top (ours f) * top (ours f)
+sign_of binary32 x h = sign-alone 31 x h
+sign_of binary64 x h = sign-alone 63 x h
+
+pub sign_or : (f : Ieee.Format) (x s : ℕ) → x < 2 * top (ours f) → s < top (ours f) → bit_or (bit_and x (top (ours f))) s ≡ x / top (ours f) * top (ours f) + s
+sign_or binary32 x s h l = sign-before 31 x s h l
+sign_or binary64 x s h l = sign-before 63 x s h l
+
+pub sign_or-fits : (f : Ieee.Format) (x s : ℕ) → x < 2 * top (ours f) → s < top (ours f) → bit_or (bit_and x (top (ours f))) s < 2 * top (ours f)
+sign_or-fits f x s h l =
+    let t = top (ours f) in
+    rw (sign_or f x s h l) (within (x / t * t) s t (mul-le-mul_right t (le_of_suc-le-suc ((div-lt_iff_lt-mul (lt_of_le_of_lt zero-le l)).1 h))) l)
+  where
+    within : (a s t : ℕ) → a ≤ 1 * t → s < t → a + s < 2 * t
+    within a s t h l = omega arith
 
 -- a size's last k digits with the leading one before them
 pub digits-with-leading : (k z : ℕ) → bit_or (bit_and z (2 ^ k - 1)) (1 * 2 ^ k) ≡ 2 ^ k + z % 2 ^ k

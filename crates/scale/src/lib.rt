@@ -3,6 +3,8 @@
 // number of its units.
 #![tactic(auto)]
 
-pub mod clamp;
 pub mod double;
+pub mod float;
+pub mod scaling;
 pub mod single;
+pub mod word;

@@ -3,13 +3,9 @@
 ghost use Rattle.std.specs.Prelude.{◌<◌, ◌≤◌};
 
 use super::bisect::floor_root;
-use std::num::wrapping_sub_u64;
 
-const HIDDEN32: u64 = 0x800000;
-
-const HIDDEN64: u64 = 0x10000000000000;
-// 2^29: an f64 has this many times the digits' weight of an f32.
-const FINER: u64 = 0x20000000;
+// The leading one of 53 digits.
+const LEADING: u64 = 0x10000000000000;
 
 // The first 54 digits of the root, and its field in an f64.
 #[derive(Clone, Copy)]
@@ -26,56 +22,90 @@ fn root_of(m: u64, e: u64) -> Root
     let mut m = m;
     let mut e = e;
     for _ in 0..52u32 {
-        if m < HIDDEN64 {
+        if m < LEADING {
             m = 2 * m;
-            e = wrapping_sub_u64(e, 1);
+            e = e.wrapping_sub(1);
         }
     }
     let field = (e % 4096 + 923) / 2;
     if e % 2 == 0 {
-        let digits = floor_root(2 * (m % (2 * HIDDEN64)));
+        let digits = floor_root(2 * (m % (2 * LEADING)));
         return Root { digits, field };
     }
     let digits = floor_root(m);
     Root { digits, field }
 }
 
-// The root of an f32 word.
-pub fn single(x: u64) -> u64 {
-    if x % 0x80000000 == 0 || x == 0x7f800000 {
-        return x;
-    }
-    if x > 0x7f800000 {
-        return 0x7fc00000;
-    }
-    if x < HIDDEN32 {
-        return single_word(root_of(x * FINER, 1 + 896 + 100));
-    }
-    single_word(root_of((x % HIDDEN32 + HIDDEN32) * FINER, x / HIDDEN32 + 896 + 100))
+// A width: the digits of a significand, the leading one counted, and the largest exponent.
+#[derive(Clone, Copy)]
+pub struct Width {
+    digits: u32,
+    emax: u64,
+    ghost digits_room: { (1 ≤ digits) × (digits ≤ 53) },
+    ghost emax_room: { emax ≤ 1023 },
 }
 
-// Of 25 digits an odd number is raised by 1, then halved; the hidden digit brings one to the field.
-fn single_word(r: Root) -> u64 {
-    let q = r.digits / FINER;
-    wrapping_sub_u64(r.field, 897) % 256 * HIDDEN32 + (q + q % 2) / 2
-}
+impl Width {
+    pub const SINGLE: Width = Width {
+        digits: 24,
+        emax: 127,
+    };
 
-// The root of an f64 word.
-pub fn double(x: u64) -> u64 {
-    if x % 0x8000000000000000 == 0 || x == 0x7ff0000000000000 {
-        return x;
-    }
-    if x > 0x7ff0000000000000 {
-        return 0x7ff8000000000000;
-    }
-    if x < HIDDEN64 {
-        return double_word(root_of(x, 1 + 100));
-    }
-    double_word(root_of(x % HIDDEN64 + HIDDEN64, x / HIDDEN64 + 100))
-}
+    pub const DOUBLE: Width = Width {
+        digits: 53,
+        emax: 1023,
+    };
 
-// The same of 54 digits.
-fn double_word(r: Root) -> u64 {
-    let q = r.digits % (4 * HIDDEN64);
-    wrapping_sub_u64(r.field, 1) % 2048 * HIDDEN64 + (q + q % 2) / 2
+    // The leading one of a significand.
+    fn hidden(self) -> u64
+        ensures { 0 < result }
+    {
+        1 << (self.digits - 1)
+    }
+
+    // The field of infinity, all ones.
+    fn ones(self) -> u64
+        ensures { result ≤ 2047 }
+    {
+        2 * self.emax + 1
+    }
+
+    // The exponent's field t in its place.
+    fn placed(self, t: u64) -> u64 {
+        t << (self.digits - 1)
+    }
+
+    // The root of a word.
+    pub fn root(self, x: u64) -> u64 {
+        let hidden = self.hidden();
+        let infinity = self.placed(self.ones());
+        let top = self.placed(self.ones() + 1);
+        if x == 0 || x == top || x == infinity {
+            return x;
+        }
+        if x > infinity {
+            return infinity | hidden / 2;
+        }
+        // 53 digits, and an f64's field, 100 too high.
+        let finer = 53 - self.digits;
+        let higher = 1023 - self.emax + 100;
+        if x < hidden {
+            return self.word(root_of(x << finer, 1 + higher));
+        }
+        self.word(root_of(
+            (x % hidden | hidden) << finer,
+            (x / hidden & self.ones()) + higher,
+        ))
+    }
+
+    // The word of a root. Of one digit more than the width's an odd number is raised by 1, then halved; the
+    // hidden digit brings one to the field.
+    fn word(self, r: Root) -> u64
+        requires { r.digits < 18014398509481984 }
+    {
+        let q = r.digits >> (53 - self.digits);
+        let m = (q + q % 2) / 2;
+        let t = r.field.wrapping_sub(1023 - self.emax + 1) & self.ones();
+        self.placed(t + m / self.hidden()) | m % self.hidden()
+    }
 }

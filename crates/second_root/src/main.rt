@@ -5,38 +5,24 @@
 mod bisect;
 mod fields;
 
-use samples::{DOUBLES, SINGLES};
+use fields::Width;
+use samples::Samples;
 use std::io;
 
-fn line(rt: &HostRuntime, x: u64, r: u64, width: usize) -> io::Result<()> {
-    println!(rt; "{x:0width$x} {r:0width$x}")
-}
-
-fn single(rt: &HostRuntime, x: u32) -> io::Result<()> {
-    line(rt, x as u64, fields::single(x as u64), 8)
-}
-
-fn double(rt: &HostRuntime, x: u64) -> io::Result<()> {
-    line(rt, x, fields::double(x), 16)
-}
-
-fn singles(rt: &HostRuntime) -> io::Result<()> {
-    for i in 0..32 {
-        single(rt, SINGLES[i])?;
-    }
-    Ok(())
-}
-
-fn doubles(rt: &HostRuntime) -> io::Result<()> {
-    for i in 0..32 {
-        double(rt, DOUBLES[i])?;
+// Each word of a width and its root, a line for each.
+fn roots<W: Samples>(rt: &impl Print, width: Width) -> io::Result<()> {
+    let digits = W::DIGITS;
+    for &word in W::WORDS {
+        let x = word.into();
+        let root = width.root(x);
+        println!(rt; "{x:0digits$x} {root:0digits$x}")?;
     }
     Ok(())
 }
 
 fn main(rt: HostRuntime) -> io::Result<()> {
     println!(rt; "sqrtf")?;
-    singles(&rt)?;
+    roots::<u32>(&rt, Width::SINGLE)?;
     println!(rt; "sqrtd")?;
-    doubles(&rt)
+    roots::<u64>(&rt, Width::DOUBLE)
 }

@@ -5,7 +5,7 @@
 #![tactic(auto)]
 
 ghost use Rattle.std.specs.Counts.{IsPrefixLen};
-ghost use Rattle.std.specs.Prelude.{◌<◌, ◌≤◌, length, IfOk};
+ghost use Rattle.std.specs.Prelude.{ℕ, ◌^◌, ◌<◌, ◌≤◌, length, IfOk};
 ghost use Rattle.std.specs.Io.{ReadsAtMost};
 
 use std::fmt::InlineText;
@@ -13,52 +13,26 @@ use std::hint::spin_loop;
 use std::io;
 use std::io::{ErrorKind, Print, Read};
 
-// What one read brought: `count` bytes, none at the end of the input and none when it failed.
-#[derive(Clone, Copy)]
-pub struct Input {
-    pub failed: bool,
-    pub count: usize,
-}
-
-// Reads what has come, as far as buf has room for it, to the start of buf. A failed read is told, after
-// `cannot` and a colon.
-pub fn read(rt: &HostRuntime, buf: &mut [u8], cannot: &[u8]) -> Input
-    ensures { IsPrefixLen result.count buf.new }
+// Reads what has come, as far as buf has room for it, to the start of buf; no bytes at the end of the input. A
+// failed read is told, after `cannot` and a colon.
+pub fn read(rt: &HostRuntime, buf: &mut [u8], cannot: &[u8]) -> io::Result<usize>
+    ensures { ReadsAtMost result buf.new }
 {
-    match read_once(rt, buf) {
-        Ok(count) => Input {
-            failed: false,
-            count,
-        },
-        Err(e) => {
-            fail(rt, cannot, &e);
-            Input {
-                failed: true,
-                count: 0,
-            }
-        }
-    }
+    read_once(rt, buf).inspect_err(|e| fail(rt, cannot, e))
 }
 
-// Writes all of buf and answers true. A failed write is told as a failed read is, and the answer is false: some
-// of buf may then be written.
-pub fn write(rt: &HostRuntime, buf: &[u8], cannot: &[u8]) -> bool {
-    let n = buf.len();
-    let mut done = 0;
-    while done < n {
-        let rest = &buf[done..];
-        match write_once(rt, rest) {
-            Ok(put) => done += put,
-            Err(e) => {
-                fail(rt, cannot, &e);
-                return false;
-            }
-        }
+// Writes all of buf. A failed write is told as a failed read is: some of buf may then be written.
+pub fn write(rt: &HostRuntime, buf: &[u8], cannot: &[u8]) -> io::Result<()> {
+    let mut rest = buf;
+    while !rest.is_empty() {
+        let put = write_once(rt, rest).inspect_err(|e| fail(rt, cannot, e))?;
+        rest = &rest[put..];
     }
-    true
+    Ok(())
 }
 
-// What reading until a buffer is full brought: `count` bytes, and the error that ended it, if one did.
+// What reading until a buffer is full brought: `count` bytes, and the error that ended it, if one did. No Result
+// has both.
 #[derive(Clone, Copy)]
 pub struct Filled {
     pub count: usize,
@@ -70,34 +44,74 @@ pub fn read_full(rt: &HostRuntime, buf: &mut [u8]) -> Filled
     ensures { IsPrefixLen result.count buf.new }
 {
     let mut input = rt.stdin();
-    let mut done = 0;
-    let mut ended = Ok(());
-    while done < buf.len() {
-        match input.read(&mut buf[done..]) {
+    let mut count = 0;
+    while count < buf.len() {
+        match input.read(&mut buf[count..]) {
             Ok(0) => break,
-            Ok(n) => done += n,
+            Ok(n) => count += n,
             Err(e) => {
-                ended = Err(e);
-                break;
+                return Filled {
+                    count,
+                    ended: Err(e),
+                };
             }
         }
     }
-    Filled { count: done, ended }
+    Filled {
+        count,
+        ended: Ok(()),
+    }
 }
 
-// What a read answers that need not be made again.
+// Writes the answers to all of the input, a piece of IN bytes after the other: `answer` puts those to a piece in
+// room for OUT bytes and returns how many bytes they are. What came before a failed read is answered, and then
+// the error is returned.
+// A proved loop has to end, and nothing says that the input does: no input has this many pieces.
+pub fn answer_pieces<const IN: usize, const OUT: usize, A: Fn(&[u8], &mut [u8]) -> usize>(
+    rt: &HostRuntime,
+    answer: A,
+) -> io::Result<()>
+    requires fits { (IN < 2 ^ 63) × (OUT < 2 ^ 63) }
+    requires takes { A.IsAlwaysCallable answer }
+    requires within { (piece : _) (room : _) (n : ℕ) (filled : _) → A.post answer piece room n filled → n ≤ length filled.now }
+{
+    for _ in 0..u64::MAX {
+        if !answer_piece::<IN, OUT, _>(rt, &answer)? {
+            break;
+        }
+    }
+    Ok(())
+}
+
+// One piece: read until it is full or the input ends, so that only the last piece can be cut off, however the
+// input is delivered. Returns whether to go on: a short piece is the last.
+fn answer_piece<const IN: usize, const OUT: usize, A: Fn(&[u8], &mut [u8]) -> usize>(
+    rt: &HostRuntime,
+    answer: &A,
+) -> io::Result<bool>
+    requires fits { (IN < 2 ^ 63) × (OUT < 2 ^ 63) }
+    requires takes { A.IsAlwaysCallable answer.now }
+    requires within { (piece : _) (room : _) (n : ℕ) (filled : _) → A.post answer.now piece room n filled → n ≤ length filled.now }
+{
+    let mut piece = [0u8; IN];
+    let got = read_full(rt, &mut piece);
+    let mut room = [0u8; OUT];
+    let n = answer(&piece[..got.count], &mut room);
+    rt.write_all(&room[..n])?;
+    got.ended?;
+    Ok(got.count == IN)
+}
+
+// What a read answers that need not be made again. Its loop and the one of `write_once` are two: one that takes the
+// call would have to promise, of each state that the call leaves, how long the buffer in it is.
 fn read_once(rt: &HostRuntime, buf: &mut [u8]) -> io::Result<usize>
     ensures { ReadsAtMost result buf.new }
 {
     let mut input = rt.stdin();
     for _ in 0..u64::MAX {
         match input.read(buf) {
-            Ok(got) => return Ok(got),
-            Err(e) => {
-                if !again(&e) {
-                    return Err(e);
-                }
-            }
+            Err(e) if again(&e) => {}
+            answer => return answer,
         }
     }
     Err(io::Error::from(ErrorKind::TimedOut))
@@ -110,12 +124,8 @@ fn write_once(rt: &HostRuntime, buf: &[u8]) -> io::Result<usize>
     for _ in 0..u64::MAX {
         match rt.write_some(buf) {
             Ok(0) => return Err(io::Error::from(ErrorKind::WriteZero)),
-            Ok(put) => return Ok(put),
-            Err(e) => {
-                if !again(&e) {
-                    return Err(e);
-                }
-            }
+            Err(e) if again(&e) => {}
+            answer => return answer,
         }
     }
     Err(io::Error::from(ErrorKind::TimedOut))
@@ -136,10 +146,9 @@ fn again(e: &io::Error) -> bool {
 fn fail(rt: &HostRuntime, what: &[u8], e: &io::Error) {
     let told = InlineText::<256>::of(e);
     let told = told.as_str();
-    let text = match told.split_once(" (os error ") {
-        Some((text, _)) => text,
-        None => told,
-    };
+    let text = told
+        .split_once(" (os error ")
+        .map_or(told, |(text, _)| text);
     let _ = rt.stderr().write_all(what);
     let _ = eprintln!(rt; ": {text}");
 }

@@ -1,68 +1,65 @@
-// Little-endian words at a place of a slice of bytes.
-ghost use Rattle.std.specs.Prelude.{◌≡◌, ◌++◌, ◌+◌, ◌≤◌, ◌<◌, min, length, take, drop};
-ghost use Rattle.stream.specs.Bytes.{word_of, bytes_of, signed_of};
+// Words as bytes, the least significant first.
+ghost use Rattle.std.specs.Prelude.{◌≡◌, ℕ, ◌+◌, ◌≤◌, ◌<◌, ◌++◌, length, take, drop};
+ghost use Rattle.std.proofs.Common.{rules};
+ghost use Rattle.stream.specs.Bytes.{word_of, bytes_of};
 
-fn wide(x: u8) -> u32
-    ensures { (result ≡ x) × (result < 256) }
-{
-    x as u32
+use words::word::Word;
+
+pub trait LittleEndian: Word {
+    // How many bytes a word is.
+    const SIZE: usize;
+
+    ghost SIZE: { ℕ };
+
+    // The word of the bytes at the start of a slice.
+    fn read(bytes: &[u8]) -> Self
+        requires { SIZE ≤ length bytes.now }
+        ensures { Self.number result ≡ word_of (take SIZE bytes.now) };
+
+    // The word's bytes are put at the start of a slice.
+    fn put(self, out: &mut [u8])
+        requires { SIZE ≤ length out.old }
+        ensures { out.new ≡ bytes_of SIZE (Self.number self) ++ drop SIZE out.old };
+
+    // A word has some bytes, and few.
+    ghost some: { 0 < SIZE };
+
+    ghost few: { SIZE ≤ 8 };
 }
 
-// The word of the four bytes at a place.
-pub fn word4(b: &[u8], at: usize) -> u32
-    requires { at + 4 ≤ length b.now }
-    ensures { result ≡ word_of (take 4 (drop at b.now)) }
-{
-    let b0 = wide(b[at]);
-    let b1 = wide(b[at + 1]);
-    let b2 = wide(b[at + 2]);
-    let b3 = wide(b[at + 3]);
-    b0 + 256 * (b1 + 256 * (b2 + 256 * b3))
-}
+// Both impls call std's conversions, which are methods of the two types and of no trait.
+impl LittleEndian for u32 {
+    const SIZE: usize = 4;
 
-// The word of the eight bytes at a place.
-pub fn word8(b: &[u8], at: usize) -> u64
-    requires { at + 8 ≤ length b.now }
-    ensures { result ≡ word_of (take 8 (drop at b.now)) }
-{
-    let low = word4(b, at);
-    let high = word4(b, at + 4);
-    (low as u64) + 4294967296 * (high as u64)
-}
+    ghost SIZE = { 4 };
 
-// The signed number that a word of 32 bits stands for.
-pub fn signed4(w: u32) -> i32
-    ensures { result ≡ signed_of w }
-{
-    if w < 2147483648 {
-        w as i32
-    } else {
-        -1 - ((4294967295 - w) as i32)
+    ghost some = { Prim.search rules };
+
+    ghost few = { Prim.search rules };
+
+    fn read(bytes: &[u8]) -> u32 {
+        u32::from_le_bytes(*bytes.first_chunk().unwrap())
+    }
+
+    fn put(self, out: &mut [u8]) {
+        out[..4].copy_from_slice(&self.to_le_bytes());
     }
 }
 
-// The four bytes of a word are put at a place.
-pub fn put4(out: &mut [u8], at: usize, w: u32)
-    requires { at + 4 ≤ length out.old }
-    ensures { out.new ≡ take at out.old ++ bytes_of 4 w ++ drop (at + 4) out.old }
-{
-    out[at] = (w % 256) as u8;
-    out[at + 1] = (w / 256 % 256) as u8;
-    out[at + 2] = (w / 256 / 256 % 256) as u8;
-    out[at + 3] = (w / 256 / 256 / 256 % 256) as u8;
-}
+impl LittleEndian for u64 {
+    const SIZE: usize = 8;
 
-// The eight bytes of a word are put at a place.
-pub fn put8(out: &mut [u8], at: usize, w: u64)
-    requires { at + 8 ≤ length out.old }
-    ensures { out.new ≡ take at out.old ++ bytes_of 8 w ++ drop (at + 8) out.old }
-{
-    put4(out, at, (w % 4294967296) as u32);
-    put4(out, at + 4, (w / 4294967296) as u32);
-}
+    ghost SIZE = { 8 };
 
-pub fn least(a: usize, b: usize) -> usize
-    ensures { result ≡ min a b }
-{
-    if a < b { a } else { b }
+    ghost some = { Prim.search rules };
+
+    ghost few = { Prim.search rules };
+
+    fn read(bytes: &[u8]) -> u64 {
+        u64::from_le_bytes(*bytes.first_chunk().unwrap())
+    }
+
+    fn put(self, out: &mut [u8]) {
+        out[..8].copy_from_slice(&self.to_le_bytes());
+    }
 }

@@ -4,5 +4,4 @@
 #![tactic(auto)]
 
 pub mod bytes;
-pub mod double;
-pub mod single;
+pub mod records;

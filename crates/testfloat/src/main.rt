@@ -9,6 +9,7 @@ mod report;
 use lists::reader::{State, feed, finish, start};
 use report::report;
 use std::env::{Env, FillError};
+use std::io;
 
 fn usage(rt: &HostRuntime) {
     let _ = eprintln!(rt;
@@ -19,47 +20,30 @@ fn usage(rt: &HostRuntime) {
 
 // Whether the program was started with an argument.
 fn has_arguments(rt: &HostRuntime) -> bool {
-    match rt.arg(1, &mut []) {
-        Err(FillError::NotPresent) => false,
-        _ => true,
+    !matches!(rt.arg(1, &mut []), Err(FillError::NotPresent))
+}
+
+// Reads the whole list. A proved loop has to end, and nothing says that the input does: no input has this many pieces.
+fn read_list(rt: &HostRuntime) -> io::Result<State> {
+    let mut piece = [0u8; 16384];
+    let mut state = start();
+    for _ in 0..u64::MAX {
+        let count = stdio::read(rt, &mut piece, b"testfloat: cannot read")?;
+        if count == 0 {
+            break;
+        }
+        state = feed(state, &piece[..count]);
     }
+    Ok(state)
 }
 
-// What one read changes: whether it failed, whether there may be more, and the state after it.
-#[derive(Clone, Copy)]
-struct Turn {
-    failed: bool,
-    more: bool,
-    state: State,
-}
-
-fn read_more(rt: &HostRuntime, state: State) -> Turn {
-    let mut input = [0u8; 16384];
-    let r = stdio::read(rt, &mut input, b"testfloat: cannot read");
-    let after = feed(state, &input[..r.count]);
-    Turn {
-        failed: r.failed,
-        more: r.count > 0,
-        state: after,
-    }
-}
-
-// A proved loop has to end, and nothing says that the input does: no input has this many pieces.
+// A read or write that fails is told where it fails.
 fn main(rt: HostRuntime) {
     if has_arguments(&rt) {
         usage(&rt);
         return;
     }
-    let mut state = start();
-    for _ in 0..u64::MAX {
-        let t = read_more(&rt, state);
-        if t.failed {
-            return;
-        }
-        state = t.state;
-        if !t.more {
-            break;
-        }
+    if let Ok(state) = read_list(&rt) {
+        let _ = report(&rt, &finish(state));
     }
-    report(&rt, finish(state));
 }

@@ -2,27 +2,26 @@
 // oracle/vectors.rs prints. The roots come first, as `second_root` prints them too.
 #![tactic(auto)]
 
+mod lines;
 mod partials;
-mod powers;
-mod print;
-mod roots;
-mod scalings;
 
+use lines::{powers, roots, scalings};
+use partials::of_two;
 use std::io;
 
 fn main(rt: HostRuntime) -> io::Result<()> {
-    print::text(&rt, b"sqrtf\n")?;
-    roots::singles(&rt)?;
-    print::text(&rt, b"sqrtd\n")?;
-    roots::doubles(&rt)?;
-    print::text(&rt, b"scalbnf\n")?;
-    scalings::singles(&rt)?;
-    print::text(&rt, b"scalbnd\n")?;
-    scalings::doubles(&rt)?;
-    print::text(&rt, b"powf\n")?;
-    powers::singles(&rt)?;
-    print::text(&rt, b"powd\n")?;
-    powers::doubles(&rt)?;
-    print::text(&rt, b"partial_sqrtf\n")?;
-    partials::of_two(&rt)
+    println!(rt; "sqrtf")?;
+    roots::<f32>(&rt)?;
+    println!(rt; "sqrtd")?;
+    roots::<f64>(&rt)?;
+    println!(rt; "scalbnf")?;
+    scalings::<f32>(&rt)?;
+    println!(rt; "scalbnd")?;
+    scalings::<f64>(&rt)?;
+    println!(rt; "powf")?;
+    powers::<f32>(&rt)?;
+    println!(rt; "powd")?;
+    powers::<f64>(&rt)?;
+    println!(rt; "partial_sqrtf")?;
+    of_two(&rt)
 }

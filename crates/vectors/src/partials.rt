@@ -1,34 +1,18 @@
 // Partial roots of the f32 word 2.0, and the two refusals of document 01.
-use super::print;
-use root::partial::PartialRoot;
-use root::single::partial_sqrtf;
+use root::partial::partial_root;
 use std::io;
-use words::refusal::DONE;
 
 // Digits, left-over and rounds; or the refusal number.
-fn line(rt: &HostRuntime, r: PartialRoot) -> io::Result<()> {
-    if r.number == DONE {
-        print::decimal(rt, r.digits)?;
-        print::text(rt, b" ")?;
-        print::decimal(rt, r.left)?;
-        print::text(rt, b" ")?;
-        print::decimal(rt, r.rounds as u64)?;
-    } else {
-        print::text(rt, b"refused ")?;
-        print::decimal(rt, r.number as u64)?;
+fn line(rt: &impl Print, x: u32, k: u32) -> io::Result<()> {
+    match partial_root::<f32>(x, k) {
+        Ok(p) => println!(rt; "{} {} {}", p.digits, p.left, p.rounds),
+        Err(r) => println!(rt; "refused {}", r.number()),
     }
-    print::text(rt, b"\n")
 }
 
-pub fn of_two(rt: &HostRuntime) -> io::Result<()> {
-    line(rt, partial_sqrtf(0x40000000, 0))?;
-    line(rt, partial_sqrtf(0x40000000, 1))?;
-    line(rt, partial_sqrtf(0x40000000, 2))?;
-    line(rt, partial_sqrtf(0x40000000, 3))?;
-    line(rt, partial_sqrtf(0x40000000, 4))?;
-    line(rt, partial_sqrtf(0x40000000, 5))?;
-    line(rt, partial_sqrtf(0x40000000, 6))?;
-    line(rt, partial_sqrtf(0x40000000, 25))?;
-    line(rt, partial_sqrtf(0x40000000, 26))?;
-    line(rt, partial_sqrtf(0xbf800000, 26))
+pub fn of_two(rt: &impl Print) -> io::Result<()> {
+    for k in [0, 1, 2, 3, 4, 5, 6, 25, 26] {
+        line(rt, 0x40000000, k)?;
+    }
+    line(rt, 0xbf800000, 26)
 }

@@ -1,12 +1,14 @@
 -- How many binary digits a number has, and powers of two as 64 bits hold them. Assumes nothing.
-use mathlib.Core.Path.{◌≡◌, ap, ◌∙◌}
-use Prim.Native.Nat.{ℕ, suc, ◌-◌, ◌*◌, ◌%◌, ◌^◌, ◌≤◌, ◌<◌}
-use native.Mathlib.Nat.{le_trans, le_antisymm, lt_of_lt_of_le, lt_of_not-le, not-le_of_lt, one-mul, mul-le-mul, mod-eq_of_lt, pow-succ'}
+use mathlib.Core.Path.{◌≡◌, ap, ◌∙◌, subst}
+use Prim.Native.Nat.{ℕ, suc, ◌+◌, ◌-◌, ◌*◌, ◌%◌, ◌^◌, ◌≤◌, ◌<◌}
+use native.Mathlib.Nat.{le_trans, le_antisymm, lt_of_lt_of_le, lt_of_not-le, not-le_of_lt, one-mul, mul_comm, mul-le-mul, mod-eq_of_lt, pow-succ'}
 use native.Mathlib.Omega.{arith}
 use lib.Dec.{lit≤}
 use lib.Pow.{pow_mono, pow-lt}
 use lib.Ieee.{size}
 use lib.Ieee.Digits.{size-lt, size-le}
+use Rattle.words.specs.Format.{format, top}
+use Rattle.words.specs.Rounding.{Held}
 
 pub size-gt : (n j : ℕ) → 2 ^ j ≤ n → j < size n
 size-gt n j h = lt_of_not-le (λ (g : size n ≤ j). not-le_of_lt (lt_of_lt_of_le (size-lt n) (pow_mono g)) h)
@@ -36,3 +38,7 @@ placed p t hp ht = mod-eq_of_lt (below (t * 2 ^ (p - 1)) (room t p ht hp))
   where
     below : (n : ℕ) → n ≤ 2 ^ 63 → n < 2 ^ 64
     below n h = omega arith
+
+-- a held format's words have room in 64 bits
+pub top_small : (p e : ℕ) → Held p e → top (format p e) ≤ 2 ^ 63
+top_small p e h = subst (λ (n : ℕ). n ≤ 2 ^ 63) (mul_comm (suc (2 * e + 1)) (2 ^ (p - 1))) (room (suc (2 * e + 1)) p (omega (arith, h.high)) h.small)

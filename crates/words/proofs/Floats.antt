@@ -1,7 +1,7 @@
 -- Words and floats: what float a word stands for, and which is the NaN. Assumes nothing.
 use mathlib.Core.Path.{◌≡◌, refl, sym, ap, ◌∙◌, subst}
 use Prim.Native.Nat.{ℕ, zero, suc, ◌+◌, ◌-◌, ◌*◌, ◌/◌, ◌%◌, ◌^◌, ◌≤◌, ◌<◌}
-use native.Mathlib.Nat.{mul-one, lt_of_mul-lt-mul_right, mul-div_cancel, mul-mod_left, mod-mod_of_dvd, dvd-mul_right, div-add-mod', le-add_right, lt_of_le_of_lt, le_of_eq}
+use native.Mathlib.Nat.{mul-one, lt_of_mul-lt-mul_right, mul-div_cancel, mul-mod_left, mod-mod_of_dvd, dvd-mul_right, mod-eq_of_lt, div-add-mod', le-add_right, lt_of_le_of_lt, le_of_eq}
 use native.Mathlib.Omega.{arith}
 use mathlib.Core.Bool.{Bool, true, false, not, cond}
 use lib.Dec.{T, leb, ltb, eqb, lt→ltb, eqb→eq, not_T}
@@ -13,7 +13,9 @@ use lib.Ieee.Fits.{eq→eqb}
 use lib.Ieee.Bits.{is_true, cond_no, nan_bits_is, nan_bits_above}
 use lib.Ieee.Compare.{differs_from_itself, nan_differs}
 use lib.Ieee.Exact.{HasValue, odd_sign}
+use borrow.Author.Tests.{le-ltb}
 use Rattle.words.specs.Format.{infinity, quiet, units_at, units, ours}
+use Rattle.words.proofs.Words.{infinity-below}
 
 -- ---- three kinds of words, by the magnitude: a NaN's
 nan-only : (x : Float) → is_nan x ≡ true → x ≡ nan
@@ -22,8 +24,15 @@ nan-only nan e = refl
 nan-only (inf s) e = absurd (subst T (sym e) tt)
 nan-only (fin s m d) e = absurd (subst T (sym e) tt)
 
+pub nan-of-bits : (f : Format) (w : ℕ) → nan_bits f w ≡ true → of_bits f w ≡ nan
+nan-of-bits f w e = nan-only (of_bits f w) (sym (nan_bits_is f w) ∙ e)
+
 pub word-nan : (f : Format) (w : ℕ) → infinity (ours f) < w % top f → of_bits f w ≡ nan
 word-nan f w h = nan-only (of_bits f w) (sym (nan_bits_is f w) ∙ nan_bits_above f w ∙ is_true (ltb (ones f * hid f) (w % top f)) (lt→ltb (ones f * hid f) (w % top f) h))
+
+pub below_number : (f : Format) (w : ℕ) → w ≤ infinity (ours f) → nan_bits f w ≡ false
+below_number f w h =
+    nan_bits_above f w ∙ ap (ltb (ones f * hid f)) (mod-eq_of_lt (lt_of_le_of_lt h (infinity-below (ours f)))) ∙ le-ltb (ones f * hid f) w h
 
 pub word_number : (f : Format) (w : ℕ) → w % top f ≤ infinity (ours f) → T (not (nan_bits f w))
 word_number f w h = subst (λ (b : Bool). T (not b)) (sym (nan_bits_above f w)) (le→nltb (ones f * hid f) (w % top f) h)

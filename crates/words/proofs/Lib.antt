@@ -1,6 +1,7 @@
 pub mod Digits
 pub mod Words
 pub mod Units
+pub mod Compared
 pub mod Cut
 pub mod Even
 pub mod Rounded

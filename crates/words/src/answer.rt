@@ -4,7 +4,7 @@ ghost use Rattle.words.specs.Answers.{answered};
 
 use super::refusal::DONE;
 
-// A refusal number and the result's word; an f32's word stands in the low half.
+// A refusal number and the result's word, as C sees them; an f32's word stands in the low half.
 #[repr(C)]
 #[derive(Clone, Copy)]
 pub struct Answer {
@@ -13,8 +13,10 @@ pub struct Answer {
 }
 
 // The answer of a call that does not refuse.
-pub fn answer_of(word: u64) -> Answer
-    ensures { result ≡ answered word }
-{
-    Answer { number: DONE, word }
+impl From<u64> for Answer {
+    ghost from_gives = { λ word a. a ≡ answered word };
+
+    fn from(word: u64) -> Answer {
+        Answer { number: DONE, word }
+    }
 }

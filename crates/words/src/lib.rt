@@ -1,9 +1,10 @@
-// The ground: what an answer is, the refusal numbers, the two ways between words and floats, and
-// the absolute value. The formats, their words and the one rounding are definitions of `specs/`.
+// The ground: what code that is written once for f32 and f64 asks of the two widths and of their words; a
+// format as a value; what an answer is, and the refusals. The formats and the one rounding are definitions
+// of `specs/`.
 #![tactic(auto)]
 
 pub mod answer;
-pub mod bridge;
-pub mod fabs;
+pub mod format;
 pub mod refusal;
-pub mod weights;
+pub mod width;
+pub mod word;

@@ -2,8 +2,8 @@
 use Rattle.std.proofs.Common.{◌-◌, ◌≤◌, ◌≡◌, length}
 use Rattle.stdio.proofs.read_full.Given as goal
 
-abbrev pub invariant-loop-done : goal.invariant-loop-done
-invariant-loop-done l = (length l.buf ≡ length l.initial.buf) × (l.done ≤ length l.buf)
+abbrev pub invariant-loop-count : goal.invariant-loop-count
+invariant-loop-count l = (length l.buf ≡ length l.initial.buf) × (l.count ≤ length l.buf)
 
-abbrev pub decreases-loop-done : goal.decreases-loop-done
-decreases-loop-done l = length l.initial.buf - l.done
+abbrev pub decreases-loop-count : goal.decreases-loop-count
+decreases-loop-count l = length l.initial.buf - l.count

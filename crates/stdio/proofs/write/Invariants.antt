@@ -1,9 +1,6 @@
--- `stdio::write` ends, and no part of buf is asked for that it does not have: each turn writes some of what is left. Assumes nothing.
-use Rattle.std.proofs.Common.{◌-◌, ◌≤◌}
+-- `stdio::write` ends: each turn writes some of what is left. Assumes nothing.
+use Rattle.std.proofs.Common.{length}
 use Rattle.stdio.proofs.write.Given as goal
 
-abbrev pub invariant-loop-done : goal.invariant-loop-done
-invariant-loop-done l = l.done ≤ l.n
-
-abbrev pub decreases-loop-done : goal.decreases-loop-done
-decreases-loop-done l = l.n - l.done
+abbrev pub decreases-loop-rest : goal.decreases-loop-rest
+decreases-loop-rest l = length l.rest

@@ -1,56 +1,50 @@
 -- `lists::judge::is_exact` meets its contract: an exact root is told by the square of what stands before its zeros. Assumes nothing.
-use Prim.Native.Nat.{ℕ, ◌+◌, ◌-◌, ◌*◌, ◌/◌, ◌%◌, ◌^◌, ◌≤◌, ◌<◌}
-use mathlib.Core.Path.{◌≡◌, refl, sym, ap, subst, ◌∙◌}
-use mathlib.Core.Bool.{◌&&◌}
-use native.Mathlib.Omega.{arith}
-use lib.Dec.{eqb}
-use Rattle.words.specs.Format.{Format, format, hid}
+use Rattle.std.proofs.Common.{ℕ, ◌≡◌, ◌+◌, ◌%◌, ◌≤◌, ◌∙◌, ap, arith}
+use Rattle.words.specs.Format.{Format, hid}
+use Rattle.words.specs.Rounding.{Held}
 use Rattle.root.specs.Root.{significand, whole_of}
-use Rattle.root.proofs.Words.{Fine, held-fine}
-use Rattle.lists.proofs.Flags.{significand-read, exact-tested, front-small}
+use Rattle.root.proofs.Words.{Fine}
+use Rattle.lists.proofs.Flags.{significand-read, exact-tested, front-small, flags-rounded}
 use Rattle.lists.proofs.judge.is_exact.Goals as goal
-use Rattle.lists.proofs.judge.is_exact.Goals.{After-significand_of-s}
+use Rattle.lists.proofs.judge.is_exact.Goals.{After-digits-zeros}
 
-module _ (c : After-significand_of-s) where
+module _ (c : After-digits-zeros) where
+  abbrev f : Format
+  f = c.args.f
+
   abbrev x : ℕ
   x = c.args.x
 
-  abbrev p : ℕ
-  p = c.args.p
-
-  abbrev f : Format
-  f = format p c.args.emax
-
-  abbrev s : ℕ
-  s = c.significand_of-s.result
-
-  abbrev w : ℕ
-  w = c.parts_of-o.result.w
-
-  few : p ≤ 53
-  few = c.requires.held.0.small
+  held : Held f.digits f.emax
+  held = c.digits-zeros.ensures.held
 
   fine : Fine f
-  fine = held-fine p c.args.emax c.requires.held.0
+  fine = record { least = held.least; room = held.room }
 
-  s-is : s ≡ significand p (whole_of f x)
+  small : f.digits ≤ 60
+  small = omega (arith, held.small)
+
+  s-is : c.significand_of-s.result ≡ significand f.digits (whole_of f x)
   s-is =
       c.significand_of-s.ensures
       ∙ ap (λ (r : ℕ). hid f + r % hid f) c.requires.root_value
-      ∙ significand-read f x fine (omega (arith, few)) c.requires.held.1 c.requires.held.2
+      ∙ significand-read f x fine small c.requires.finite.0 c.requires.finite.1
 
-  w-is : w ≡ whole_of f x
-  w-is = c.parts_of-o.ensures.w_value
-
-  square-fits : s / 2 ^ ((p - 1) / 2) * (s / 2 ^ ((p - 1) / 2)) < 2 ^ 64
-  square-fits = subst (λ (z : ℕ). z / 2 ^ ((p - 1) / 2) * (z / 2 ^ ((p - 1) / 2)) < 2 ^ 64) (sym s-is)
-      (front-small f x fine (omega (arith, few)) c.requires.held.1 c.requires.held.2 ((p - 1) / 2) few refl)
+  w-is : c.of-o.result.w ≡ whole_of f x
+  w-is = c.of-o.ensures.w_value
 
 pub overflow_mul-result : goal.overflow_mul-result
-overflow_mul-result c = record { fits = square-fits (goal.at.overflow_mul-result c).After-significand_of-s }
+overflow_mul-result c =
+    let k = (goal.at.overflow_mul-result c).After-digits-zeros in
+    record { fits = front-small (f k) (x k) (fine k) (small k) c.requires.finite.0 c.requires.finite.1 (s-is k) c.digits-zeros.ensures.value (held k).small }
 
-pub returns : goal.returns
-returns c =
-    let k : ℕ = (p (goal.at.returns c).After-significand_of-s - 1) / 2 in
-    (λ i. eqb (s-is (goal.at.returns c).After-significand_of-s i / 2 ^ k * 2 ^ k % 2 ^ 64) (s-is (goal.at.returns c).After-significand_of-s i) && eqb (s-is (goal.at.returns c).After-significand_of-s i / 2 ^ k * (s-is (goal.at.returns c).After-significand_of-s i / 2 ^ k)) (w-is (goal.at.returns c).After-significand_of-s i * 2 ^ (p (goal.at.returns c).After-significand_of-s - 1 - k - k) % 2 ^ 64))
-    ∙ exact-tested (f (goal.at.returns c).After-significand_of-s) (x (goal.at.returns c).After-significand_of-s) (fine (goal.at.returns c).After-significand_of-s) (omega (arith, few (goal.at.returns c).After-significand_of-s)) c.requires.held.1 c.requires.held.2 k (few (goal.at.returns c).After-significand_of-s) refl
+pub returns-clause-value : goal.returns-clause-value
+returns-clause-value c =
+    let k = (goal.at.returns-clause-value c).After-digits-zeros in
+    exact-tested (f k) (x k) (fine k) (small k) c.requires.finite.0 c.requires.finite.1 (s-is k) c.digits-zeros.ensures.value (held k).small (w-is k)
+
+pub returns-clause-flags : goal.returns-clause-flags
+returns-clause-flags c =
+    let k = (goal.at.returns-clause-flags c).After-digits-zeros in
+    flags-rounded (f k) (x k) (fine k) (small k) c.requires.finite.0 c.requires.finite.1
+    (exact-tested (f k) (x k) (fine k) (small k) c.requires.finite.0 c.requires.finite.1 (s-is k) c.digits-zeros.ensures.value (held k).small (w-is k))

@@ -18,9 +18,6 @@ zeros c =
     let all : p + (64 - p) ≡ 64 = omega (arith, c.requires.2) in
     (leading_wider p (64 - p) m c.requires.1 ∙ ap (λ (k : ℕ). count_leading_zeros k m) all, leading_le p m, c.requires.2)
 
-pub overflow_sub-result : goal.overflow_sub-result
-overflow_sub-result c = omega (arith, zeros (goal.at.overflow_sub-result c).Start)
-
 pub overflow_sub-result-2 : goal.overflow_sub-result-2
 overflow_sub-result-2 c = omega (arith, zeros (goal.at.overflow_sub-result-2 c).Start)
 

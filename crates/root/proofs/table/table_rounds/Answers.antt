@@ -82,15 +82,6 @@ ended c =
     same : {a c s e : ℕ} → a ≡ c → Ends s e c → Ends s e a
     same {a} {c} {s} {e} i h = subst (λ (k : ℕ). Ends s e k) (sym i) h
 
-pub overflow_shl-w : goal.overflow_shl-w
-overflow_shl-w c = omega (arith, c.requires.2)
-
-pub reciprocal-r-requires : goal.reciprocal-r-requires
-reciprocal-r-requires c = (omega (arith, c.requires), omega (arith, c.requires), omega (arith, c.requires), first c.args.m c.args.odd c.args.place c.requires.3)
-  where
-    first : (m odd j : ℕ) → j ≡ place_of m odd → j % 256 ≡ m / 2 ^ 22 / 2 ^ 22 % 256
-    first m odd j e = omega (arith, e)
-
 pub overflow_mul-s : goal.overflow_mul-s
 overflow_mul-s c = rw (shl c.args.m c.args.odd c.requires.0 c.requires.1 c.requires.2) (record { fits = omega (arith, (step (goal.at.overflow_mul-s c).After-reciprocal-r).product) })
 

@@ -1,7 +1,0 @@
--- `batch::digits::sqrtd_digits_batch` meets its contract, by the laws of batches. Assumes nothing.
-use native.Mathlib.Omega.{arith}
-use Rattle.batch.proofs.Progress.{step}
-use Rattle.batch.proofs.digits.sqrtd_digits_batch.Goals as goal
-
-pub loop-i-preserved : goal.loop-i-preserved
-loop-i-preserved c = step c.loop-i.invariant 0 (omega arith) c.root64_digits.ensures

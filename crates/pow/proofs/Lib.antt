@@ -1,0 +1,3 @@
+pub mod Small
+pub mod Stored
+pub mod Walked

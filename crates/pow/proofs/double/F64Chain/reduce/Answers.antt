@@ -1,0 +1,20 @@
+-- `pow::double::Chain::reduce` meets its contract: each way is the definition's. Assumes nothing.
+use Rattle.std.proofs.Common.{arith, le-ltb, lt-ltb}
+use Rattle.power.specs.Chain.{reduced_of}
+use Rattle.pow.proofs.double.F64Chain.reduce.Goals as goal
+
+pub returns-then-ix-lt4503599627370496 : goal.returns-then-ix-lt4503599627370496
+unfolding reduced_of
+returns-then-ix-lt4503599627370496 c =
+    record {
+      result_value = simp (lt-ltb _ _ c.if-ix-lt4503599627370496.true) cc;
+      ix_bound = omega arith;
+    }
+
+pub returns-else-ix-lt4503599627370496 : goal.returns-else-ix-lt4503599627370496
+unfolding reduced_of
+returns-else-ix-lt4503599627370496 c =
+    record {
+      result_value = simp (le-ltb _ _ c.if-ix-lt4503599627370496.false) cc;
+      ix_bound = omega arith;
+    }

@@ -1,0 +1,16 @@
+-- `pow::double::lowered` meets its contract: the code's masks and shifts in plain arithmetic, by power/proofs/Words.antt. Assumes nothing.
+use Rattle.std.proofs.Common.{arith}
+use Rattle.power.proofs.Words.{half-some, bias-small, sum-small, half-even-is}
+use Rattle.pow.proofs.double.lowered.Goals as goal
+
+pub overflow_sub-result-2 : goal.overflow_sub-result-2
+overflow_sub-result-2 c = half-some 64 52 c.args.w c.args.s c.requires.0 c.requires.1 (omega arith)
+
+pub overflow_add-result : goal.overflow_add-result
+overflow_add-result c = record { fits = bias-small 64 52 c.args.w c.args.s c.requires.0 c.requires.1 (omega arith) }
+
+pub overflow_add-result-2 : goal.overflow_add-result-2
+overflow_add-result-2 c = record { fits = sum-small 64 52 c.args.w c.args.s c.requires.0 c.requires.1 (omega arith) }
+
+pub returns : goal.returns
+returns c = half-even-is 64 52 c.args.w c.args.s c.requires.0 c.requires.1 (omega arith)
