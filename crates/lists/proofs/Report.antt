@@ -28,6 +28,12 @@ use Rattle.lists.proofs.Splitting.{lines-byte}
 too_long : (j : Judge) (l : List ℕ) → 37 ≤ length l → verdict j l ≡ Malformed
 too_long j l h = of_none j l (λ e. omega arith) (λ e. omega arith) (λ e. omega arith)
 
+pub verdict-cut : (j : Judge) (l : List ℕ) → verdict j (take 37 l) ≡ verdict j l
+verdict-cut j l = elim (dec_lt (length l) 37) [
+  | yes h ↦ ap (verdict j) (take_all 37 l (omega arith))
+  | no h ↦ too_long j (take 37 l) (simp length-take (omega arith)) ∙ sym (too_long j l (omega arith))
+]
+
 pub ended-cut : (j : Judge) (t : Totals) (l : List ℕ) → ended j t (take 37 l) ≡ ended j t l
 unfolding ended
 ended-cut j t l = elim (dec_lt (length l) 37) [

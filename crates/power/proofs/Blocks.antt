@@ -1,7 +1,7 @@
 -- The stages of a block together are the chain, and a word whose flag ends clear is the power. Over the width. Assumes nothing.
 use Prim.Native.Nat.{ℕ, ◌+◌, ◌-◌, ◌*◌, ◌/◌, ◌%◌, ◌<◌, ◌≤◌}
 use mathlib.Core.Path.{◌≡◌, refl, sym, ap, subst, ◌∙◌}
-use mathlib.Core.Bool.{Bool, true, false, not, ◌&&◌, cond}
+use mathlib.Core.Bool.{Bool, true, false, not, cond}
 use native.Mathlib.Nat.{lt_trans, le_of_lt, mod-eq_of_lt}
 use native.Mathlib.Omega.{arith}
 use lib.Dec.{T, ltb}
@@ -23,7 +23,6 @@ use Rattle.power.proofs.Limits.{fate-inside}
 use Rattle.power.proofs.Cases.{finish-ended}
 use Rattle.power.proofs.SignOf.{signed_word}
 use Rattle.power.proofs.Nan.{is_number}
-use Rattle.power.proofs.Words.{both}
 use Rattle.power.specs.NoNan.{Number}
 use Rattle.power.proofs.Clear.{Clear, Room, clear-power}
 
@@ -86,21 +85,6 @@ module _ (w : Width) where
       → t ≡ exponent_of w (reduced_of w x).e → log2_of w p (con w (DP-H + k)) (con w (DP-L + k)) t ≡ far_of w x
   unfolding ratio_of far_of far_at
   log2-is x e f g = λ n. log2_of w (e n) (con w (DP-H + f n)) (con w (DP-L + f n)) (g n)
-
-  -- the exponential's start, by two tests: b, that z is below `large` in size, and s, that the turn of t, which is z where b holds, is sure
-  pub stepped-on : (p : Two) (flag : ℕ) (h t : Float) (e : ℕ) (b s : Bool) → Number (add w.format p.lo h) → flag < 2
-      → (b ≡ true → to_bits w.format (add w.format p.lo p.hi) % top w.format < w.large) → (b ≡ true → t ≡ add w.format p.lo p.hi)
-      → (s ≡ true → (h ≡ rest_of w p.hi t) × (e ≡ lift_of w t)) → b && s ≡ true → Stepped w p flag h e flag
-  stepped-on p flag h t e b s n f l z r k =
-      let g = both b s k in
-      let q = r g.1 in
-      record { bit = f; number = n; clean = λ c. (c, l g.0, q.0 ∙ ap (rest_of w p.hi) (z g.0), q.1 ∙ ap (lift_of w) (z g.0)) }
-
-  pub stepped-off : (p : Two) (flag : ℕ) (h : Float) (e : ℕ) → Number (add w.format p.lo h) → Stepped w p flag h e 1
-  stepped-off p flag h e n = record { bit = omega arith; number = n; clean = λ c. absurd (set c) }
-    where
-      set : ◌≡◌ {A = ℕ} 1 0 → ⊥
-      set c = omega arith
 
   -- a word whose flag ends clear: z is within the limits, so the power is 1 times 2 to it, and that has this word
   module _ (R : Room w) (l : w.large ≤ w.small) {m d : ℕ} (g : High w m d) {x y : ℕ} (c : Clear w x y) where

@@ -85,10 +85,6 @@ leading-number f j d x t h n =
 pub number-bits : (f : Format) (v : Float) → T (fits f v) → is_nan v ≡ false → is_nan_word (ours f) (to_bits f v) ≡ false
 number-bits f v h n = sym (nan_bits_above f (to_bits f v)) ∙ nan_bits_is f (to_bits f v) ∙ ap is_nan (of_bits-to_bits f v h) ∙ n
 
--- the word of a float that is no NaN
-pub float_word : (f : Format) (x : ℕ) → Number (of_bits f x) → T (not (nan_bits f x))
-float_word f x n = subst (λ (b : Bool). T (not b)) (sym (nan_bits_is f x ∙ n)) tt
-
 number-float : (f : Format) (x : ℕ) → is_nan_word (ours f) x ≡ false → is_nan (of_bits f x) ≡ false
 number-float f x n = sym (nan_bits_is f x) ∙ nan_bits_above f x ∙ n
 

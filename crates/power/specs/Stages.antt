@@ -1,6 +1,5 @@
 -- The stages in which a block of pairs walks the open chain: the chain cut between its steps, one text for both widths. Which pairs walk so. Definitions only.
-use Rattle.std.specs.Prelude.{ℕ, ◌+◌, ◌-◌, ◌*◌, ◌/◌, ◌%◌, ◌^◌, ◌<◌, ◌≤◌, ◌≡◌, Bool, not, ◌&&◌, cond, List, leb, ltb, eqb, length, get_or, Float}
-use Rattle.std.specs.Float.{nan}
+use Rattle.std.specs.Prelude.{ℕ, ◌+◌, ◌-◌, ◌*◌, ◌/◌, ◌%◌, ◌^◌, ◌<◌, ◌≤◌, ◌≡◌, Bool, not, ◌&&◌, cond, List, leb, ltb, eqb, length, Float}
 use Rattle.std.specs.Float.Ieee.{add, sub, to_bits, of_bits, hid, top}
 use Rattle.words.specs.Format.{ours, one, infinity, magnitude}
 use Rattle.power.specs.Width.{Width, Two, Three}
@@ -61,22 +60,10 @@ module _ (w : Width) where
     pub clean : flag' ≡ 0 → (flag ≡ 0) × (word ≡ (to_bits w.format (exponential_of w q) + e * hid w.format) % (2 * top w.format))
         × (hid w.format ≤ word) × (word < infinity (ours w.format))
 
--- ---- a block: arrays of 64, and what stands at a place of them
+-- ---- a block: arrays of 64
 
 abbrev pub Full : {A : Type 0} → List A → Type 0
 Full l = length l ≡ 64
 
 abbrev pub Each : (ℕ → Type 0) → Type 0
 Each P = (j : ℕ) → j < 64 → P j
-
-abbrev pub word_at : List ℕ → ℕ → ℕ
-word_at l j = get_or l j 0
-
-abbrev pub float_at : List Float → ℕ → Float
-float_at l j = get_or l j nan
-
-abbrev pub two_at : List Float → List Float → ℕ → Two
-two_at hs ls j = record { hi = float_at hs j; lo = float_at ls j }
-
-abbrev pub three_at : List Float → List Float → List Float → ℕ → Three
-three_at ss hs ls j = record { s = float_at ss j; hi = float_at hs j; lo = float_at ls j }

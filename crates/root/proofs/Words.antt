@@ -8,22 +8,16 @@ use native.Mathlib.Decide.{dec_lt}
 use lib.IntN.{ℤ, sub_ℕ}
 use lib.Signed.{shr_z}
 use lib.Pow.{pow_pos, pow_mono, pow-add}
-use lib.Bits.{bit_and, and_mask}
 use borrow.Author.Tests.{eq-eqb, ne_eqb, lt-ltb, le-ltb}
 use Rattle.words.specs.Format.{Format, format, hid, top, infinity, quiet, units, units_at}
 use Rattle.root.specs.Partial.{partial_root, refused}
 use Rattle.words.specs.Refusal.{done, not_positive, too_many_rounds}
-use Rattle.words.proofs.Digits.{one_shl}
 use Rattle.words.proofs.Words.{infinity-some, infinity-below, quiet-below, below-fits}
 use Rattle.root.specs.Root.{left_at, digits_at, whole_of, lifted, root_at, root_word, halves, whole, exponent_of, significand}
 use Rattle.root.specs.Engine.{odd_z, Split, Rounds, Asked, Shifts}
 use Rattle.words.specs.Rounding.{Held}
 use Rattle.root.proofs.Roots.{digits-unique, near}
 use Rattle.root.proofs.Operands.{halves-is, whole_is, shifts-few, shifted-value, parts_are, sub-shift, operand-split}
-
--- the fraction of a word of p digits by its mask
-pub mask_is : (p x : ℕ) → p ≤ 53 → bit_and x (1 * 2 ^ (p - 1) % 2 ^ 64 - 1) ≡ x % 2 ^ (p - 1)
-mask_is p x small = ap (λ (z : ℕ). bit_and x (z - 1)) (one_shl (p - 1) (omega arith)) ∙ and_mask x (p - 1)
 
 -- where the field of a positive word is 0 the fraction is not
 pub fraction-some : (h x : ℕ) → 0 < x → x / h ≡ 0 → 0 < x % h
