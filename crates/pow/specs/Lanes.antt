@@ -1,5 +1,5 @@
 -- The lanes of a block's room, whose arrays are of 64. Definitions only.
-use Rattle.std.specs.Prelude.{ℕ, length, get_or, set, ◌≡◌}
+use Rattle.std.specs.Prelude.{ℕ, length, get_or, replicate, set, ◌≡◌}
 use Rattle.pow.specs.declared.lane.Lane.{Lane}
 use Rattle.pow.specs.declared.block.Room.{Room}
 
@@ -20,6 +20,13 @@ put r i l =
       rs = set r.rs i l.r;
       ts = set r.ts i l.t;
     }
+
+-- the room whose every word is the one given, and every float
+abbrev pub filled : {F W : Type 0} → W → F → Room F W
+filled w f =
+    let ws = replicate 64 w in
+    let fs = replicate 64 f in
+    record { flags = ws; ws = ws; es = ws; ss = fs; hs = fs; ls = fs; rs = fs; ts = fs }
 
 -- the room is of 64 lanes
 pub record Whole {F W : Type 0} (r : Room F W) : Type 0 where

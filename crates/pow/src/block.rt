@@ -6,7 +6,7 @@ ghost use Rattle.std.specs.Float.Ieee.{of_bits};
 ghost use Rattle.power.specs.Chain.{far_of, product_of};
 ghost use Rattle.power.specs.Power.{pow_of};
 ghost use Rattle.power.specs.Stages.{Each, Ended, Full, clear, walked_with};
-ghost use Rattle.pow.specs.Lanes.{Whole, lane_at, put};
+ghost use Rattle.pow.specs.Lanes.{Whole, filled, lane_at, put};
 ghost use Rattle.pow.specs.Parts.{of, two_in};
 
 use super::lane::Lane;
@@ -31,7 +31,9 @@ pub struct Room<F, W> {
 }
 
 impl<F: Chain> Room<F, F::Word> {
-    pub fn new() -> Self {
+    pub fn new() -> Self
+        ensures { result ≡ filled F.Word.ZERO F.ONE }
+    {
         let word = F::Word::ZERO;
         let float = F::ONE;
         Room {
