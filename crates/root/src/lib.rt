@@ -9,5 +9,5 @@ pub mod operand;
 pub mod partial;
 pub mod root;
 mod rounds;
-mod special;
+pub mod special;
 mod table;

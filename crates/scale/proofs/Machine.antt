@@ -55,10 +55,10 @@ module _ (f : Format) (w : Width) (x : Float) (n : ℤ) (N : SFits w n) where
   e : held w n ≡ n
   e = to_z-of_z w n N
 
-  sub-fits : past_up f (held w n) ≡ true → SFits w (held w n -ℤ pos (emax f))
+  pub sub-fits : past_up f (held w n) ≡ true → SFits w (held w n -ℤ pos (emax f))
   sub-fits h = up_fits f w (held w n) (subst (SFits w) (sym e) N) h
 
-  add-fits : past_down f (held w n) ≡ true → SFits w (held w n +ℤ pos (suc (fall f)))
+  pub add-fits : past_down f (held w n) ≡ true → SFits w (held w n +ℤ pos (suc (fall f)))
   add-fits h = down_fits f w (held w n) (subst (SFits w) (sym e) N) h
 
   pub step-up : (P : Float) → P ≡ power (pos (emax f)) → past_up f (held w n) ≡ true → (mul f x P ≡ step_float f x n) × (held w (held w n -ℤ pos (emax f)) ≡ step_left f n)
@@ -92,6 +92,23 @@ max-min l m n h = go (lt_z m n)
 
 pub clamp-held : (f : Format) {l m : ℤ} (n : ℤ) → l ≡ negsuc (emax f - 2) → m ≡ pos (emax f) → int_max (held w32 l) (int_min n (held w32 m)) ≡ clamped f n
 clamp-held f n L M = rw (least-held f L, most-held f M) (max-min (negsuc (emax f - 2)) (pos (emax f)) n refl)
+
+-- by tests of what the machine holds
+module _ (w : Width) (l m n : ℤ) (L : SFits w l) (M : SFits w m) (N : SFits w n) where
+  pub clamp-most : lt_z (held w m) (held w n) ≡ true → held w m ≡ between l m n
+  clamp-most h = let u : lt_z m n ≡ true = (λ i. lt_z (sym (to_z-of_z w m M) i) (sym (to_z-of_z w n N) i)) ∙ h in to_z-of_z w m M ∙ rw u refl
+
+  pub clamp-least : lt_z (held w m) (held w n) ≡ false → lt_z (held w n) (held w l) ≡ true → held w l ≡ between l m n
+  clamp-least g h =
+      let u : lt_z m n ≡ false = (λ i. lt_z (sym (to_z-of_z w m M) i) (sym (to_z-of_z w n N) i)) ∙ g in
+      let d : lt_z n l ≡ true = (λ i. lt_z (sym (to_z-of_z w n N) i) (sym (to_z-of_z w l L) i)) ∙ h in
+      to_z-of_z w l L ∙ rw (u, d) refl
+
+  pub clamp-none : lt_z (held w m) (held w n) ≡ false → lt_z (held w n) (held w l) ≡ false → held w n ≡ between l m n
+  clamp-none g h =
+      let u : lt_z m n ≡ false = (λ i. lt_z (sym (to_z-of_z w m M) i) (sym (to_z-of_z w n N) i)) ∙ g in
+      let d : lt_z n l ≡ false = (λ i. lt_z (sym (to_z-of_z w n N) i) (sym (to_z-of_z w l L) i)) ∙ h in
+      to_z-of_z w n N ∙ rw (u, d) refl
 
 -- ---- 2 ^ n for a normal exponent, as the machine holds it
 pub held-normal : (f : Format) (w : Width) (n : ℤ) → SFits w n → Normal f n → Normal f (held w n)
@@ -132,6 +149,9 @@ module _ (w : Width) (n : ℤ) (y most : ℕ) (N : SFits w n) (u : held w n ≤�
       go : (n : ℤ) → SFits w n → n ≤ℤ pos most → SFits w (n +ℤ pos y)
       go (pos a) h l = record { sfits = up_to most a y (2 ^ hbits w) Y (leb→le a most l.le) }
       go (negsuc a) h l = mixed a h.sfits (ltb y (suc a))
+
+  pub sum_fits : SFits w (held w n +ℤ held w (pos y))
+  sum_fits = subst (SFits w) (sym plain-sum) small-sum
 
   pub sum-held : held w (held w n +ℤ held w (pos y)) ≡ n +ℤ pos y
   sum-held = ap (held w) plain-sum ∙ to_z-of_z w (n +ℤ pos y) small-sum
@@ -187,7 +207,7 @@ module _ (f : Format) (w : Width) (m : ℕ) (M : m < 2 ^ prec f) (n r : ℤ) (N 
       past x c z e = omega arith
 
   module _ (W : low f + suc (emax f) + low f + 1 < 2 ^ hbits w) where
-    tiny-fits : SFits w (held w r -ℤ pos (low f))
+    pub tiny-fits : SFits w (held w r -ℤ pos (low f))
     tiny-fits = subst (λ (k : ℤ). SFits w (k -ℤ pos (low f))) (sym exponent) (Exponents.most-held f w n W)
 
     pub tiny-whole : (v : Float) → v ≡ mul f (of_int f (pos m)) (power (held w (held w r -ℤ pos (low f)))) → WholeWord f m n v

@@ -47,9 +47,9 @@ pub fn power<F: Width>(n: i32) -> F
 
 // y times 2^n is what is left to do.
 #[derive(Clone, Copy)]
-struct Stepped<F> {
-    y: F,
-    n: i32,
+pub struct Stepped<F> {
+    pub y: F,
+    pub n: i32,
 }
 
 // One long step toward the normal exponents, where n is past them.

@@ -3,6 +3,7 @@
 // number of its units.
 #![tactic(auto)]
 
+pub mod clamp;
 pub mod double;
 pub mod float;
 pub mod scaling;

@@ -28,6 +28,14 @@ impl Format {
     ghost use Rattle.words.specs.Format.{format};
     ghost use Rattle.words.specs.Rounding.{Held};
 
+    // The format of any two numbers that 64 bits hold.
+    pub fn new(digits: u32, emax: u32) -> Self
+        requires { Held digits emax }
+        ensures { result ≡ format digits emax }
+    {
+        Format { digits, emax }
+    }
+
     // The formats by name: two numbers each.
     pub fn binary16() -> Self
         ensures { result ≡ binary16 }
@@ -70,7 +78,7 @@ impl Format {
     }
 
     // The exponent's field t in its place, above the digits below the leading one.
-    fn field(self, t: u64) -> u64
+    pub fn field(self, t: u64) -> u64
         requires { t ≤ 2 ^ 11 }
         ensures { result ≡ t * hid self }
     {
