@@ -21,7 +21,8 @@ pub fn near<F: Width>(x: F::Word, n: i32) -> F::Word
 
 // The word of x times 2^n for a word that is no NaN's, where that takes no product: zeros and infinities
 // are unchanged, and any other number is an infinity more than 277 or 2098 places up, and a zero more
-// than that down.
+// than that down. The test for infinity stands twice, behind that of n: beside the test for zero a compiler makes
+// one of the two, which takes longer.
 pub fn limit<F: Width>(x: F::Word, n: i32) -> Option<F::Word>
     requires { magnitude (ours F.format) (F.Word.number x) ≤ infinity (ours F.format) }
     ensures some { IfSome result (λ r. F.Word.number r ≡ scaled (ours F.format) (F.Word.number x) n) }
@@ -34,15 +35,19 @@ pub fn limit<F: Width>(x: F::Word, n: i32) -> Option<F::Word>
     let size = F::fabs(x).wide();
     let up = (2 * format.emax() + format.digits() - 1) as i32;
     let down = -up;
-    if size == 0 || size >= infinity {
+    if size == 0 {
         Some(x)
     } else if n > up || n < down {
         let sign = word & format.top();
-        if n > 0 {
+        if size >= infinity {
+            Some(x)
+        } else if n > 0 {
             Some(F::Word::narrow(sign | infinity))
         } else {
             Some(F::Word::narrow(sign))
         }
+    } else if size >= infinity {
+        Some(x)
     } else {
         None
     }

@@ -1,8 +1,8 @@
 -- `scale::word::limit` meets its contract: unchanged, an infinity or a zero. Assumes nothing.
-use Prim.Native.Nat.{◌*◌, ◌%◌, ◌<◌}
+use Prim.Native.Nat.{◌*◌, ◌%◌, ◌<◌, ◌≤◌}
 use mathlib.Core.Path.{◌≡◌, ap, ◌∙◌, sym, subst}
 use mathlib.Core.Bool.{true}
-use mathlib.Core.Logic.{inl, inr}
+use mathlib.Core.Logic.{◌⊎◌, inl, inr}
 use native.Mathlib.Nat.{le_antisymm, le_trans}
 use lib.Dec.{lit≤}
 use lib.IntN.{ℤ}
@@ -55,11 +55,21 @@ narrow-requires g c =
     let f = g.F.Width.format in
     rw (c.wide-word.ensures.value, weight g (goal.at.narrow-requires g c).After-top, most g s, g.met.F.Width.word_size) (sign_or-fits f _ _ (word g s) (infinity-below (ours f)))
 
+-- zeros and infinities are unchanged, wherever n is
+kept : (g : given.Over) (c : After-digits g) → (c.wide-size.result ≡ 0) ⊎ (c.infinity-infinity.result ≤ c.wide-size.result)
+    → g.F.Word.Word.number c.args.x ≡ scaled (ours g.F.Width.format) (g.F.Word.Word.number c.args.x) c.args.n
+kept g c e =
+    scaled-kept (ours g.F.Width.format) _ c.wide-size.result c.args.n (le_trans (lit≤ tt) (two g.F.Width.format)) (word g c) (size g c)
+    (elim e [ inl z ↦ inl z | inr z ↦ inr (le_antisymm (rw (size g c) c.requires) (rw (← most g c) z)) ])
+
+pub returns-then-size-eq0-clause-some : goal.returns-then-size-eq0-clause-some
+returns-then-size-eq0-clause-some g c = kept g (goal.at.returns-then-size-eq0-clause-some g c).After-digits (inl c.if-size-eq0.true)
+
 pub returns-then-size-infinity-clause-some : goal.returns-then-size-infinity-clause-some
-returns-then-size-infinity-clause-some g c =
-    let s = (goal.at.returns-then-size-infinity-clause-some g c).After-digits in
-    scaled-kept (ours g.F.Width.format) _ c.wide-size.result c.args.n (le_trans (lit≤ tt) (two g.F.Width.format)) (word g s) (size g s)
-    (elim c.if-size-infinity.either [ inl z ↦ inl z | inr z ↦ inr (le_antisymm (rw (size g s) c.requires) (rw (← most g s) z.1)) ])
+returns-then-size-infinity-clause-some g c = kept g (goal.at.returns-then-size-infinity-clause-some g c).After-digits (inr c.if-size-infinity.true)
+
+pub returns-then-size-infinity-2-clause-some : goal.returns-then-size-infinity-2-clause-some
+returns-then-size-infinity-2-clause-some g c = kept g (goal.at.returns-then-size-infinity-2-clause-some g c).After-digits (inr c.if-size-infinity-2.true)
 
 pub returns-then-n-gt0-clause-some : goal.returns-then-n-gt0-clause-some
 returns-then-n-gt0-clause-some g c =
@@ -68,7 +78,7 @@ returns-then-n-gt0-clause-some g c =
     let f = g.F.Width.format in
     c.narrow.ensures
     ∙ rw (c.wide-word.ensures.value, weight g p.After-top, most g s) (sign_or f _ _ (word g s) (infinity-below (ours f)))
-    ∙ limit-up f _ (word g s) (λ z. c.if-size-infinity.false.0 (size g s ∙ z)) (rw (size g s, most g s) at c.if-size-infinity.false.1) _ (beyond g p.Then-n-down (emax g s) (digits g s)) c.if-n-gt0.true
+    ∙ limit-up f _ (word g s) (λ z. c.if-size-eq0.false (size g s ∙ z)) (rw (size g s, most g s) at c.if-size-infinity.false) _ (beyond g p.Then-n-down (emax g s) (digits g s)) c.if-n-gt0.true
     ∙ ap (scaled (ours f) (g.F.Word.Word.number c.args.x)) (to_z-of_z w32 c.args.n c.ranges.n)
 
 pub returns-else-n-gt0-clause-some : goal.returns-else-n-gt0-clause-some
@@ -78,5 +88,5 @@ returns-else-n-gt0-clause-some g c =
     let f = g.F.Width.format in
     c.narrow-else-n-gt0.ensures
     ∙ rw (c.wide-word.ensures.value, weight g p.After-top) (sign_of f _ (word g s))
-    ∙ limit-down f _ (word g s) (λ z. c.if-size-infinity.false.0 (size g s ∙ z)) (rw (size g s, most g s) at c.if-size-infinity.false.1) _ (beyond g p.Then-n-down (emax g s) (digits g s)) c.if-n-gt0.false
+    ∙ limit-down f _ (word g s) (λ z. c.if-size-eq0.false (size g s ∙ z)) (rw (size g s, most g s) at c.if-size-infinity.false) _ (beyond g p.Then-n-down (emax g s) (digits g s)) c.if-n-gt0.false
     ∙ ap (scaled (ours f) (g.F.Word.Word.number c.args.x)) (to_z-of_z w32 c.args.n c.ranges.n)
