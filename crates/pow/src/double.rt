@@ -117,6 +117,12 @@ impl Chain for f64 {
 
     ghost QUARTER = { Ieee.of_bits Ieee.binary64 0x3fd0000000000000 };
 
+    ghost most_added = { 4200 };
+
+    ghost most_reduced = { 4300 };
+
+    ghost turnable = { 0x40a0000000000000 };
+
     ghost one_is = { refl };
 
     ghost plus_is = { refl };
@@ -140,6 +146,8 @@ impl Chain for f64 {
     ghost room = { room64 };
 
     ghost limits_grow = { lit≤ tt };
+
+    ghost small_turnable = { lit< tt };
 
     ghost large_finite = { lit< tt };
 

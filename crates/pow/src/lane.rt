@@ -51,7 +51,7 @@ impl<F: Chain> Lane<F, F::Word> {
     }
 
     // A pair to walk with: the words of x and y themselves, or, flagged, 1.5 to the 1.5 in their place.
-    pub fn entered(self) -> Self
+    pub(crate) fn entered(self) -> Self
         ensures flag { F.Word.number result.flag ≡ (if clear (of F.format F.width) (F.Word.number self.w) (F.Word.number self.e) then 0 else 1) }
         ensures base { F.Word.number result.w ≡ walked_with (of F.format F.width) (clear (of F.format F.width) (F.Word.number self.w) (F.Word.number self.e)) (F.Word.number self.w) }
         ensures exponent { F.Word.number result.e ≡ walked_with (of F.format F.width) (clear (of F.format F.width) (F.Word.number self.w) (F.Word.number self.e)) (F.Word.number self.e) }
@@ -75,7 +75,7 @@ impl<F: Chain> Lane<F, F::Word> {
     // ---- the logarithm
 
     // s in its parts, its interval in the place of the word, and n as a float.
-    pub fn started(self) -> Self
+    pub(crate) fn started(self) -> Self
         requires { (hid F.format ≤ F.Word.number self.w) × (F.Word.number self.w < infinity (ours F.format)) × Number (ratio_of (of F.format F.width) (F.Word.number self.w)).lo }
         ensures interval { F.Word.number result.w ≡ (reduced_of (of F.format F.width) (F.Word.number self.w)).k }
         ensures ratio { three_in F.value result ≡ ratio_of (of F.format F.width) (F.Word.number self.w) }
@@ -94,7 +94,7 @@ impl<F: Chain> Lane<F, F::Word> {
         }
     }
 
-    pub fn with_series(self) -> Self
+    pub(crate) fn with_series(self) -> Self
         ensures series { F.value result.r ≡ series_of (of F.format F.width) (three_in F.value self) }
         ensures kept { (result.flag ≡ self.flag) × (result.w ≡ self.w) × (result.e ≡ self.e) × (three_in F.value result ≡ three_in F.value self) × (result.t ≡ self.t) }
     {
@@ -105,7 +105,7 @@ impl<F: Chain> Lane<F, F::Word> {
     }
 
     // The logarithm's two parts take the places of s_h and s_l.
-    pub fn with_logarithm(self) -> Self
+    pub(crate) fn with_logarithm(self) -> Self
         requires { Number (logarithm_of (of F.format F.width) (three_in F.value self) (F.value self.r)).lo }
         ensures logarithm { two_in F.value result ≡ logarithm_of (of F.format F.width) (three_in F.value self) (F.value self.r) }
         ensures kept { (result.flag ≡ self.flag) × (result.w ≡ self.w) × (result.e ≡ self.e) × (result.t ≡ self.t) }
@@ -121,7 +121,7 @@ impl<F: Chain> Lane<F, F::Word> {
     // ---- times y
 
     // p_h and p_l take the places of the logarithm's two parts.
-    pub fn with_product(self) -> Self
+    pub(crate) fn with_product(self) -> Self
         requires { (magnitude (ours F.format) (F.Word.number self.e) < infinity (ours F.format)) × (F.Word.number self.w < 2)
             × Number (log2_of (of F.format F.width) (two_in F.value self) (con (of F.format F.width) (DP-H + F.Word.number self.w)) (con (of F.format F.width) (DP-L + F.Word.number self.w)) (F.value self.t)).lo }
         ensures product { two_in F.value result ≡ times_of (of F.format F.width) (of_bits F.format (F.Word.number self.e)) (two_in F.value self) (F.Word.number self.w) (F.value self.t) }
@@ -147,7 +147,7 @@ impl<F: Chain> Lane<F, F::Word> {
 
     // What is left of p_h in its place, and n in that of the interval. Flagged where z is not inside the limits, or n is
     // not sure.
-    pub fn turned(self) -> Self
+    pub(crate) fn turned(self) -> Self
         requires { Finite (F.value self.hi) × Finite (F.value self.lo) × (F.Word.number self.flag < 2) }
         ensures stepped { Stepped (of F.format F.width) (two_in F.value self) (F.Word.number self.flag) (F.value result.hi) (F.Word.number result.w) (F.Word.number result.flag) }
         ensures kept { result.lo ≡ self.lo }
@@ -172,7 +172,7 @@ impl<F: Chain> Lane<F, F::Word> {
     }
 
     // z and w take the places of what is left.
-    pub fn with_parts(self) -> Self
+    pub(crate) fn with_parts(self) -> Self
         requires { Number (add F.format (F.value self.lo) (F.value self.hi)) }
         ensures parts { two_in F.value result ≡ parts_of (of F.format F.width) (two_in F.value self) }
         ensures kept { (result.flag ≡ self.flag) × (result.w ≡ self.w) }
@@ -186,7 +186,7 @@ impl<F: Chain> Lane<F, F::Word> {
     }
 
     // The word of the power in the place of n. Flagged where the word is no normal number's.
-    pub fn ended(self) -> Self
+    pub(crate) fn ended(self) -> Self
         requires { F.Word.number self.flag < 2 }
         ensures { Ended (of F.format F.width) (two_in F.value self) (F.Word.number self.w) (F.Word.number self.flag) (F.Word.number result.w) (F.Word.number result.flag) }
     {

@@ -116,6 +116,12 @@ impl Chain for f32 {
 
     ghost QUARTER = { Ieee.of_bits Ieee.binary32 0x3e800000 };
 
+    ghost most_added = { 520 };
+
+    ghost most_reduced = { 600 };
+
+    ghost turnable = { 0x43800000 };
+
     ghost one_is = { refl };
 
     ghost plus_is = { refl };
@@ -139,6 +145,8 @@ impl Chain for f32 {
     ghost room = { room32 };
 
     ghost limits_grow = { lit≤ tt };
+
+    ghost small_turnable = { lit< tt };
 
     ghost large_finite = { lit< tt };
 

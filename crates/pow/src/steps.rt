@@ -1,5 +1,5 @@
 // What the open chain asks of a width: its numbers, and the steps that work on the bits of words.
-ghost use Rattle.std.specs.Prelude.{◌≡◌, ℕ, ◌+◌, ◌*◌, ◌/◌, ◌%◌, ◌^◌, ◌<◌, ◌≤◌, IfSome, false, true, ltb, to_bits, Float};
+ghost use Rattle.std.specs.Prelude.{◌≡◌, ℕ, ◌+◌, ◌*◌, ◌/◌, ◌%◌, ◌^◌, ◌<◌, ◌≤◌, IfSome, IsNone, false, true, ltb, to_bits, Float};
 ghost use Rattle.std.specs.Float.{nan};
 ghost use Rattle.std.specs.Float.Ieee.{add, hid, of_bits, top};
 ghost use Rattle.words.specs.Format.{infinity, magnitude, negative, one, ours, quiet, signed};
@@ -57,6 +57,14 @@ pub trait Chain: Width {
 
     ghost QUARTER: { Self };
 
+    // What `interval` adds to e is less than this, and so is what `reduce` finds than the next.
+    ghost most_added: { ℕ };
+
+    ghost most_reduced: { ℕ };
+
+    // The sum with a large number finds n of a z whose size is below this.
+    ghost turnable: { ℕ };
+
     fn limits() -> Limits
         ensures { (result.huge ≡ width.huge) × (result.must ≡ width.must) × (result.less ≡ width.less) × (result.more ≡ width.more) × (result.one ≡ one (ours Self.format) / 2 ^ width.below) };
 
@@ -99,13 +107,15 @@ pub trait Chain: Width {
     fn interval(ix: Self::Word, e: u32) -> Reduced<Self::Word>
         requires { (Self.Word.number ix < top Self.format) × (e ≤ 53) }
         ensures result_value { reduction Self.Word.number result ≡ interval_of (of Self.format width) (Self.Word.number ix) e }
-        ensures ix_bound { (Self.Word.number result.ix < top Self.format / 2) × (Self.Word.number result.k < 2) × (result.e < 8192) };
+        ensures ix_bound { (Self.Word.number result.ix < top Self.format / 2) × (Self.Word.number result.k < 2) × (result.e < 8192) }
+        ensures e_bound { result.e < e + most_added };
 
     // A subnormal number is multiplied by 2^24 or 2^53 first.
     fn reduce(ix: Self::Word) -> Reduced<Self::Word>
         requires { Self.Word.number ix < top Self.format }
         ensures result_value { reduction Self.Word.number result ≡ reduced_of (of Self.format width) (Self.Word.number ix) }
-        ensures ix_bound { (Self.Word.number result.ix < top Self.format / 2) × (Self.Word.number result.k < 2) × (result.e < 8192) };
+        ensures ix_bound { (Self.Word.number result.ix < top Self.format / 2) × (Self.Word.number result.k < 2) × (result.e < 8192) }
+        ensures e_bound { result.e < most_reduced };
 
     // t_h = ax + bp[k] High.
     fn head(ix: Self::Word, k: Self::Word) -> Self
@@ -130,7 +140,7 @@ pub trait Chain: Width {
     // h less n = [z + 0.5], and n, by a sum with a large number, whose last digit counts ones. None is said of a z that
     // may be halfway between two whole numbers.
     fn turned(h: Self, z: Self) -> Option<Turn<Self, Self::Word>>
-        requires { Number (Self.value z) × (to_bits Self.format (Self.value z) % top Self.format ≤ width.small) }
+        requires { Number (Self.value z) × (to_bits Self.format (Self.value z) % top Self.format < turnable) }
         ensures { IfSome result (λ t. (Self.value t.hi ≡ rest_of (of Self.format width) (Self.value h) (Self.value z)) × (Self.Word.number t.e ≡ lift_of (of Self.format width) (Self.value z)) × (Self.Word.number t.e < 2 * whole (of Self.format width)) × ((l : Float) → Finite l → Finite (Self.value h) → Number (add Self.format l (Self.value t.hi)))) };
 
     // The same for every z within the limits: by the digits of its word, where the sum is not sure.
@@ -141,7 +151,8 @@ pub trait Chain: Width {
 
     // The word w with e added to its exponent's field, where that is a normal number's.
     fn lifted(w: Self::Word, e: Self::Word) -> Option<Self::Word>
-        ensures { IfSome result (λ r. (Self.Word.number r ≡ (Self.Word.number w + Self.Word.number e * hid Self.format) % (2 * top Self.format)) × (hid Self.format ≤ Self.Word.number r) × (Self.Word.number r < infinity (ours Self.format))) };
+        ensures none { IsNone result → hid Self.format ≤ (Self.Word.number w + Self.Word.number e * hid Self.format) % (2 * top Self.format) → infinity (ours Self.format) ≤ (Self.Word.number w + Self.Word.number e * hid Self.format) % (2 * top Self.format) }
+        ensures some { IfSome result (λ r. (Self.Word.number r ≡ (Self.Word.number w + Self.Word.number e * hid Self.format) % (2 * top Self.format)) × (hid Self.format ≤ Self.Word.number r) × (Self.Word.number r < infinity (ours Self.format))) };
 
     // The word of z * 2^n: n goes to the exponent's field.
     fn raised(z: Self, e: Self::Word) -> Self::Word
@@ -173,6 +184,8 @@ pub trait Chain: Width {
     ghost room: { Clear.Room (of Self.format width) };
 
     ghost limits_grow: { width.large ≤ width.small };
+
+    ghost small_turnable: { width.small < turnable };
 
     ghost large_finite: { width.large < quiet (ours Self.format) };
 

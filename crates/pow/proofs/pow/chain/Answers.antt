@@ -1,5 +1,5 @@
 -- `pow::pow::chain` meets its contract: each way is the definition's. Assumes nothing.
-use Rattle.std.proofs.Common.{◌/◌, ◌^◌, inl, inr, mod-lt, le-ltb, lt-ltb, ◌∙◌}
+use Rattle.std.proofs.Common.{◌/◌, ◌^◌, arith, inl, inr, mod-lt, le-ltb, lt-ltb, ◌∙◌}
 use lib.Ieee.{Float, of_bits}
 use lib.Ieee.Bits.{nan_bits_is}
 use Rattle.words.specs.Format.{magnitude, negative, ours}
@@ -19,11 +19,11 @@ way g c =
     let l = c.limits-limits.ensures in
     walked (of g.F.Width.format g.F.Chain.width) g.met.F.Chain.known _ _ c.args.negative c.requires (elim c.if-iy-limits.branch [
       | goal.then-iy-limits+else-iy-limits-2+else-ix-limits+else-ix-limits-2 w ↦ inr (
-        le-ltb _ _ (rw (l.1, c.high-iy.ensures) at w.if-iy-limits-2.false),
+        le-ltb _ _ (omega (arith, l.1, c.high-iy.ensures, w.if-iy-limits-2.false)),
         le-ltb _ _ (rw (l.2, c.high-ix.ensures) at w.if-ix-limits.false),
         le-ltb _ _ (rw (l.3, c.high-ix.ensures) at w.if-ix-limits-2.false),
       )
-      | goal.else-iy-limits w ↦ inl (le-ltb _ _ (rw (l.0, c.high-iy.ensures) at w.if-iy-limits.false))
+      | goal.else-iy-limits w ↦ inl (le-ltb _ _ (omega (arith, l.0, c.high-iy.ensures, w.if-iy-limits.false)))
     ])
 
 pub returns-then-iy-limits-2 : goal.returns-then-iy-limits-2

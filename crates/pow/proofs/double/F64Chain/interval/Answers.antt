@@ -9,4 +9,5 @@ returns c =
     record {
       result_value = interval-by-sums double spaced64 c.args.ix c.args.e c.requires.0;
       ix_bound = omega arith;
+      e_bound = omega arith;
     }

@@ -9,6 +9,7 @@ returns-then-ix-lt4503599627370496 c =
     record {
       result_value = simp (lt-ltb _ _ c.if-ix-lt4503599627370496.true) cc;
       ix_bound = omega arith;
+      e_bound = omega arith;
     }
 
 pub returns-else-ix-lt4503599627370496 : goal.returns-else-ix-lt4503599627370496
@@ -17,4 +18,5 @@ returns-else-ix-lt4503599627370496 c =
     record {
       result_value = simp (le-ltb _ _ c.if-ix-lt4503599627370496.false) cc;
       ix_bound = omega arith;
+      e_bound = omega arith;
     }

@@ -1,5 +1,5 @@
 -- `pow::double::Chain::turned` meets its contract: the sum with a large number, by chain/proofs/Turned.antt. Assumes nothing.
-use Rattle.std.proofs.Common.{T, sym, refl, subst, arith}
+use Rattle.std.proofs.Common.{T, sym, refl, subst}
 use lib.Bits.{and_high}
 use lib.Ieee.{binary64, fits}
 use Rattle.power.specs.Power.{double}
@@ -19,7 +19,7 @@ z-fits : (c : Start) → T (fits binary64 c.args.z)
 z-fits c = subst T (sym c.well_formed.1.0.1) tt
 
 range : (c : Start) → Limited double known64 c.args.z
-range c = limited-by double known64 10 refl c.args.z (omega (arith, c.requires.1))
+range c = limited-by double known64 10 refl c.args.z c.requires.1
 
 pub float_to_bits-off : goal.float_to_bits-off
 float_to_bits-off c = is_number _ (off-number double known64 c.args.z (z-fits (goal.at.float_to_bits-off c).Start) c.requires.0 (range (goal.at.float_to_bits-off c).Start))

@@ -1,5 +1,6 @@
 -- `pow::lane::Lane::turned` meets its contract: what is left of p_h is the definition's where that is sure. Assumes nothing.
 use Rattle.std.proofs.Common.{◌≡◌, ℕ, sym, ◌∙◌, le_trans, le_of_lt, ltb-true, arith}
+use native.Mathlib.Nat.{lt_of_le_of_lt}
 use Rattle.power.specs.NoNan.{Number}
 use Rattle.chain.proofs.NoNan.{finite_number}
 use Rattle.chain.proofs.Turned.{add-number}
@@ -16,8 +17,10 @@ pub is_inside-requires : goal.is_inside-requires
 is_inside-requires g c = sum-number g (goal.at.is_inside-requires g c).After-add-z
 
 pub turned-turn-requires : goal.turned-turn-requires
-turned-turn-requires g c =
-    (sum-number g (goal.at.turned-turn-requires g c).After-add-z, le_trans (le_of_lt (ltb-true _ _ (sym c.is_inside.ensures ∙ c.if-is_inside.true))) g.met.F.Chain.limits_grow)
+turned-turn-requires g c = (
+  sum-number g (goal.at.turned-turn-requires g c).After-add-z,
+  lt_of_le_of_lt (le_trans (le_of_lt (ltb-true _ _ (sym c.is_inside.ensures ∙ c.if-is_inside.true))) g.met.F.Chain.limits_grow) g.met.F.Chain.small_turnable,
+)
 
 pub returns-in-Some-clause-stepped : goal.returns-in-Some-clause-stepped
 returns-in-Some-clause-stepped g c =

@@ -9,6 +9,7 @@ returns-then-ix-lt8388608 c =
     record {
       result_value = simp (lt-ltb _ _ c.if-ix-lt8388608.true) cc;
       ix_bound = omega arith;
+      e_bound = omega arith;
     }
 
 pub returns-else-ix-lt8388608 : goal.returns-else-ix-lt8388608
@@ -17,4 +18,5 @@ returns-else-ix-lt8388608 c =
     record {
       result_value = simp (le-ltb _ _ c.if-ix-lt8388608.false) cc;
       ix_bound = omega arith;
+      e_bound = omega arith;
     }

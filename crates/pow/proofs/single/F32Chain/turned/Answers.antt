@@ -1,5 +1,5 @@
 -- `pow::single::Chain::turned` meets its contract: the sum with a large number, by chain/proofs/Turned.antt. Assumes nothing.
-use Rattle.std.proofs.Common.{T, sym, refl, subst, arith}
+use Rattle.std.proofs.Common.{T, sym, refl, subst}
 use lib.Bits.{and_high}
 use lib.Ieee.{binary32, fits}
 use Rattle.power.specs.Power.{single}
@@ -19,7 +19,7 @@ z-fits : (c : Start) → T (fits binary32 c.args.z)
 z-fits c = subst T (sym c.well_formed.1.0.1) tt
 
 range : (c : Start) → Limited single known32 c.args.z
-range c = limited-by single known32 7 refl c.args.z (omega (arith, c.requires.1))
+range c = limited-by single known32 7 refl c.args.z c.requires.1
 
 pub float_to_bits-off : goal.float_to_bits-off
 float_to_bits-off c = is_number _ (off-number single known32 c.args.z (z-fits (goal.at.float_to_bits-off c).Start) c.requires.0 (range (goal.at.float_to_bits-off c).Start))
