@@ -3,6 +3,8 @@
 // one.
 #![tactic(auto)]
 
+ghost use Rattle.std.specs.Prelude.{◌≤◌, length};
+
 mod answer;
 mod name;
 mod number;
@@ -26,7 +28,9 @@ fn arg_count(rt: &HostRuntime) -> usize {
 }
 
 // Argument i, put at the start of buf; no text where it is missing or longer than buf.
-fn arg<'a>(rt: &HostRuntime, i: usize, buf: &'a mut [u8]) -> &'a [u8] {
+fn arg<'a>(rt: &HostRuntime, i: usize, buf: &'a mut [u8]) -> &'a [u8]
+    ensures { length result.now ≤ length buf.old }
+{
     match rt.arg(i, buf) {
         Ok(n) => &buf[..n],
         Err(_) => &[],
