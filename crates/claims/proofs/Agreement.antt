@@ -2,7 +2,8 @@
 -- A contract that is an equation with a definition fixes its answer; a batch's fixes its answer and all that its results hold.
 -- The roots of either engine have one contract (sqrtd and sqrtd_digits, and so on), so that the two engines agree.
 use Prim.Native.Nat.{ℕ}
-use mathlib.Core.Path.{◌≡◌, sym, ap, subst, ◌∙◌}
+use mathlib.Core.Bool.{cond}
+use mathlib.Core.Path.{◌≡◌, refl, sym, ap, subst, ◌∙◌}
 use mathlib.Core.List.{List}
 use lib.IntN.{ℤ}
 use Rattle.words.specs.Format.{binary32, binary64, magnitude}
@@ -12,7 +13,14 @@ use Rattle.root.specs.Root.{root_word}
 use Rattle.root.specs.Partial.{partial_root}
 use Rattle.root.specs.declared.partial.PartialRoot.{PartialRoot}
 use Rattle.scale.specs.Scale.{scaled}
-use lib.Dec.{T}
+use lib.Dec.{T, eqb}
+use Rattle.std.specs.Prelude.{Result, Ok, Err}
+use Rattle.words.specs.Refusal.{done, number_of}
+use Rattle.words.specs.declared.refusal.Refusal.{Refusal}
+use Rattle.words.specs.declared.refusal.Refusal.TheVariants.{LengthsDiffer, TooLong, NotPositive, TooManyRounds}
+use Rattle.root.specs.Partial as Partials
+use Rattle.root.specs.declared.partial.Partial.{Partial}
+use Rattle.batch.specs.Batches as Batches
 use lib.Ieee as Ieee
 use Rattle.power.specs.Sorting.{sorted, Told, told, told_settled, told_open}
 use Rattle.power.specs.Power.{pow32, pow64}
@@ -106,3 +114,40 @@ feed-agrees state piece r s = same
 
 pub finish-agrees : (state : State) (r s : Tally) → Finished state r → Finished state s → r ≡ s
 finish-agrees state r s = same
+
+-- ---- the crates' own functions answer a `Result` where C has a struct: what it is laid out as fixes it
+
+abbrev refusal_at : ℕ → Refusal
+refusal_at n = cond (eqb n 1) LengthsDiffer (cond (eqb n 2) TooLong (cond (eqb n 3) NotPositive TooManyRounds))
+
+refusal-back : (r : Refusal) → refusal_at (number_of r) ≡ r
+refusal-back LengthsDiffer = refl
+refusal-back TooLong = refl
+refusal-back NotPositive = refl
+refusal-back TooManyRounds = refl
+
+abbrev partial_at : PartialRoot → Result Partial Refusal
+partial_at t = cond (eqb t.number done) (Ok (record { digits = t.digits; left = t.left; rounds = t.rounds })) (Err (refusal_at t.number))
+
+partial-back : (r : Result Partial Refusal) → partial_at (Partials.laid r) ≡ r
+partial-back (Ok p) = refl
+partial-back (Err LengthsDiffer) = refl
+partial-back (Err TooLong) = refl
+partial-back (Err NotPositive) = refl
+partial-back (Err TooManyRounds) = refl
+
+pub partial-laid-agrees : (r s : Result Partial Refusal) → Partials.laid r ≡ Partials.laid s → r ≡ s
+partial-laid-agrees r s e = sym (partial-back r) ∙ ap partial_at e ∙ partial-back s
+
+abbrev count_at : Batch → Result ℕ Refusal
+count_at t = cond (eqb t.number done) (Ok t.count) (Err (refusal_at t.number))
+
+count-back : (r : Result ℕ Refusal) → count_at (Batches.laid r) ≡ r
+count-back (Ok n) = refl
+count-back (Err LengthsDiffer) = refl
+count-back (Err TooLong) = refl
+count-back (Err NotPositive) = refl
+count-back (Err TooManyRounds) = refl
+
+pub batch-laid-agrees : (r s : Result ℕ Refusal) → Batches.laid r ≡ Batches.laid s → r ≡ s
+batch-laid-agrees r s e = sym (count-back r) ∙ ap count_at e ∙ count-back s
