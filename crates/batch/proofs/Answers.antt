@@ -15,7 +15,7 @@ use Rattle.batch.specs.Batches.{Batched, Matched, refusal, answered, written, la
 use Rattle.batch.specs.declared.outcome.Batch.{Batch}
 
 -- the number 0 says that all slices have one length
-accepted : (same : Bool) (n : ℕ) → refusal same n ≡ 0 → same ≡ true
+pub accepted : (same : Bool) (n : ℕ) → refusal same n ≡ 0 → same ≡ true
 accepted true n e = refl
 accepted false n e = let z : ⊥ = omega (arith, e) in absurd z
 

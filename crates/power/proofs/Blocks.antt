@@ -34,6 +34,13 @@ word-is-number f n h = sym (nan_bits_is f n) ∙ not-nan (nan_bits f n) (word_nu
     not-nan true h = absurd h
     not-nan false h = refl
 
+-- the fields make the record
+pub two_is : {a b : Float} {t : Two} → a ≡ t.hi → b ≡ t.lo → record { hi = a; lo = b } ≡ t
+two_is e f = rw (e, f) refl
+
+pub three-is : {a b c : Float} {t : Three} → a ≡ t.s → b ≡ t.hi → c ≡ t.lo → record { s = a; hi = b; lo = c } ≡ t
+three-is e f g = rw (e, f, g) refl
+
 module _ (w : Width) where
   -- a normal word's interval
   pub reduced-normal : (x : ℕ) → hid w.format ≤ x → reduced_of w x ≡ interval_of w x (prec w.format)

@@ -68,6 +68,9 @@ pub record Both {A B : Type 0} (a : A) (b : B) (P : ℕ → A → B → Type 0) 
   pub within : i ≤ 64
   pub met : (j : ℕ) → j < i → P j (get_or l j a) (get_or m j b)
 
+pub no-two : {A B : Type 0} {a : A} {b : B} {P : ℕ → A → B → Type 0} {l : List A} {m : List B} → length l ≡ 64 → length m ≡ 64 → Both a b P l m 0 l m
+no-two {A} {B} {a} {b} {P} {l} {m} e f = record { first = untouched a l e; second = untouched b m f; within = omega arith; met = λ j h. absurd (not-below j h) }
+
 pub two-more : {A B : Type 0} {a : A} {b : B} {P : ℕ → A → B → Type 0} {l₀ l : List A} {m₀ m : List B} {i : ℕ} → Both a b P l₀ m₀ i l m → i < 64
     → (u : A) (v : B) → P i u v → Both a b P l₀ m₀ (i + 1) (set l i u) (set m i v)
 two-more {A} {B} {a} {b} {P} {l₀} {l} {m₀} {m} {i} p h u v e =
@@ -89,6 +92,11 @@ pub record Three {A B C : Type 0} (a : A) (b : B) (c : C) (P : ℕ → A → B �
   pub third : Kept c n₀ i n
   pub within : i ≤ 64
   pub met : (j : ℕ) → j < i → P j (get_or l j a) (get_or m j b) (get_or n j c)
+
+pub no-three : {A B C : Type 0} {a : A} {b : B} {c : C} {P : ℕ → A → B → C → Type 0} {l : List A} {m : List B} {n : List C}
+    → length l ≡ 64 → length m ≡ 64 → length n ≡ 64 → Three a b c P l m n 0 l m n
+no-three {A} {B} {C} {a} {b} {c} {P} {l} {m} {n} e f g =
+    record { first = untouched a l e; second = untouched b m f; third = untouched c n g; within = omega arith; met = λ j h. absurd (not-below j h) }
 
 pub three-more : {A B C : Type 0} {a : A} {b : B} {c : C} {P : ℕ → A → B → C → Type 0} {l₀ l : List A} {m₀ m : List B} {n₀ n : List C} {i : ℕ}
     → Three a b c P l₀ m₀ n₀ i l m n → i < 64 → (u : A) (v : B) (w : C) → P i u v w → Three a b c P l₀ m₀ n₀ (i + 1) (set l i u) (set m i v) (set n i w)

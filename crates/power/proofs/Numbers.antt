@@ -24,7 +24,7 @@ shifted-div : (s d k : ℕ) → s * 2 ^ k / 2 ^ (d + k) ≡ s / 2 ^ d
 shifted-div s d k = ap (λ (j : ℕ). s * 2 ^ k / 2 ^ j) (omega arith) ∙ sym (shr-shr (s * 2 ^ k) k d) ∙ ap (λ (q : ℕ). q / 2 ^ d) (shl-shr s k)
 
 -- the digits of a normal number's size, the leading one with them
-abbrev digits_of : Format → ℕ → ℕ
+abbrev pub digits_of : Format → ℕ → ℕ
 digits_of f m = hid f + m % hid f
 
 units-normal : (f : Format) (m : ℕ) → 1 ≤ m / hid f → units f m ≡ digits_of f m * 2 ^ (m / hid f - 1)
@@ -54,11 +54,11 @@ module _ (f : Format) (m d : ℕ) (normal : 1 ≤ m / hid f) (place : d + (m / h
   units-div = rw (units-normal f m normal, ← place) (shifted-div (digits_of f m) d (m / hid f - 1))
 
   -- from 1 on, below 2 ^ digits: the digits below the point, d of them, decide
-  kind-yes : digits_of f m % 2 ^ d ≡ 0 → (whole f m ≡ true) × (odd f m ≡ eqb (digits_of f m / 2 ^ d % 2) 1)
+  pub kind-yes : digits_of f m % 2 ^ d ≡ 0 → (whole f m ≡ true) × (odd f m ≡ eqb (digits_of f m / 2 ^ d % 2) 1)
   unfolding whole odd
   kind-yes z = (rw (units-mod, z, zero-mul) refl, rw (units-mod, units-div, z, zero-mul) refl)
 
-  kind-no : (digits_of f m % 2 ^ d ≡ 0 → ⊥) → (whole f m ≡ false) × (odd f m ≡ false)
+  pub kind-no : (digits_of f m % 2 ^ d ≡ 0 → ⊥) → (whole f m ≡ false) × (odd f m ≡ false)
   unfolding whole odd
   kind-no z =
       let e : eqb ((digits_of f m % 2 ^ d) * 2 ^ (m / hid f - 1)) 0 ≡ false =
@@ -100,13 +100,13 @@ kind-small f m held p h =
     (eq-zero-or-pos (m / hid f))
 
 -- what is shifted down and up again is the same exactly where no digit is lost
-back-yes : (w s d : ℕ) → s < 2 ^ w → s / 2 ^ d * 2 ^ d % 2 ^ w ≡ s → s % 2 ^ d ≡ 0
+pub back-yes : (w s d : ℕ) → s < 2 ^ w → s / 2 ^ d * 2 ^ d % 2 ^ w ≡ s → s % 2 ^ d ≡ 0
 back-yes w s d h e =
     let q = split s d in
     let r : s / 2 ^ d * 2 ^ d % 2 ^ w ≡ s / 2 ^ d * 2 ^ d = mod-eq_of_lt (omega arith) in
     omega arith
 
-back-no : (w s d : ℕ) → s < 2 ^ w → (s / 2 ^ d * 2 ^ d % 2 ^ w ≡ s → ⊥) → s % 2 ^ d ≡ 0 → ⊥
+pub back-no : (w s d : ℕ) → s < 2 ^ w → (s / 2 ^ d * 2 ^ d % 2 ^ w ≡ s → ⊥) → s % 2 ^ d ≡ 0 → ⊥
 back-no w s d h n z =
     let q = split s d in
     let r : s / 2 ^ d * 2 ^ d % 2 ^ w ≡ s / 2 ^ d * 2 ^ d = mod-eq_of_lt (omega arith) in
@@ -114,7 +114,7 @@ back-no w s d h n z =
 
 -- ---- the digits as the code finds them, from 1 on and below 2 ^ digits
 
-digits-small : (p e m : ℕ) → Held p e → 2 ^ (p - 1) + m % 2 ^ (p - 1) < 2 ^ 64
+pub digits-small : (p e m : ℕ) → Held p e → 2 ^ (p - 1) + m % 2 ^ (p - 1) < 2 ^ 64
 digits-small p e m h = go (2 ^ (p - 1)) (m % 2 ^ (p - 1)) (room 2 p (omega arith) h.small) (mod-lt m (pow_pos (p - 1)))
   where
     go : (a b : ℕ) → 2 * a ≤ 2 ^ 63 → b < a → a + b < 2 ^ 64

@@ -3,7 +3,7 @@ use Prim.Native.Nat.{ℕ, zero, suc, ◌+◌, ◌-◌, ◌*◌, ◌/◌, ◌%◌
 use mathlib.Core.Path.{◌≡◌, refl, sym, ap, subst, ◌∙◌}
 use native.Mathlib.Nat.{add-sub_of_le, pow-succ', mul-div_cancel_left, mul-lt-mul_of_pos_left, eq_of_mul-eq-mul_left, one-mul, mod-eq_of_lt}
 use native.Mathlib.Omega.{arith}
-use lib.Pow.{pow_pos, pow-add, pow-lt}
+use lib.Pow.{pow_pos, pow_mono, pow-add, pow-lt}
 use Rattle.root.specs.Engine.{Asked, Rounds}
 
 -- After i rounds r is the weight of a digit, s is twice the digits q at that weight, and what is left satisfies one equation that no round changes.
@@ -125,6 +125,13 @@ module _ (p w k s r left : ℕ) (st : State p w k s r left) (fits : k ≤ p + 1)
       e : 2 ^ k * (2 * s + 2 * r) ≡ 2 ^ (p + 1) * (4 * st.q + 2)
       e = omega (arith, ap (λ (z : ℕ). 2 ^ k * z) st.digits, ap (λ (z : ℕ). z * st.q) weight, weight)
 
+-- every number of the engine fits a word
+pub caps : (p w k i s r left : ℕ) → Asked p w k → State p w i s r left → (s + 2 * r ≤ 2 ^ 62) × (left < 2 ^ 63) × (r ≤ 2 ^ 61)
+caps p w k i s r left a st = (omega (arith, st.room, powers p, cap), omega (arith, st.room, st.bound, powers p, cap), omega (arith, st.room, powers p, cap))
+  where
+    cap : 2 ^ p ≤ 2 ^ 60
+    cap = pow_mono a.small
+
 pub starts : (p w k : ℕ) → Asked p w k → State p w 0 0 (1 * 2 ^ (p + 1) % 2 ^ 64) (w + w)
 starts p w k a = subst (λ (z : ℕ). State p w 0 0 z (w + w)) (sym e) (start p w a.below)
   where
@@ -133,3 +140,9 @@ starts p w k a = subst (λ (z : ℕ). State p w 0 0 z (w + w)) (sym e) (start p 
 
     e : 1 * 2 ^ (p + 1) % 2 ^ 64 ≡ 2 ^ (p + 1)
     e = ap (λ (z : ℕ). z % 2 ^ 64) (one-mul (2 ^ (p + 1))) ∙ mod-eq_of_lt cap
+
+pub twice-fits : (p w k : ℕ) → Asked p w k → w + w < 2 ^ 64
+twice-fits p w k a = omega (arith, a.below, powers p, cap)
+  where
+    cap : 2 ^ p ≤ 2 ^ 60
+    cap = pow_mono a.small

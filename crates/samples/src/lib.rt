@@ -24,7 +24,7 @@ impl Samples for u64 {
 }
 
 // f32 words.
-const SINGLES: [u32; 32] = [
+pub const SINGLES: [u32; 32] = [
     0x00000000, 0x80000000, 0x00000001, 0x80000001, 0x00000003, 0x007fffff, 0x00800000, 0x00800001,
     0x33800000, 0x3e99999a, 0x3f000000, 0x3f7fffff, 0x3f800000, 0x3f800001, 0x3fc00000, 0x40000000,
     0x40400000, 0x41200000, 0x42f60000, 0x4b7fffff, 0x4b800000, 0x7f7fffff, 0x7f800000, 0x7f800001,
@@ -32,7 +32,7 @@ const SINGLES: [u32; 32] = [
 ];
 
 // f64 words.
-const DOUBLES: [u64; 32] = [
+pub const DOUBLES: [u64; 32] = [
     0x0000000000000000,
     0x8000000000000000,
     0x0000000000000001,
