@@ -1,8 +1,9 @@
-// Rules 4 and 6 of the sorting, by sizes and signs.
-ghost use Rattle.std.specs.Prelude.{◌≡◌, ◌<◌, ◌*◌};
+// Rules 4, 6 and 7 of the sorting, by sizes and signs.
+ghost use Rattle.std.specs.Prelude.{◌≡◌, ◌<◌, ◌*◌, true};
 ghost use Rattle.words.specs.Format.{top};
-ghost use Rattle.power.specs.Sorting.{at_infinity, turned, at_edge, on_edge};
+ghost use Rattle.power.specs.Sorting.{at_infinity, turned, at_edge, on_edge, sorted7, told, told_open, told_settled};
 
+use super::answer::Sorted;
 use super::kind::{Kind, kind_of};
 use super::operand::Operand;
 use words::format::Format;
@@ -65,4 +66,18 @@ pub fn is_edge(f: Format, ix: u64) -> bool
     ensures { result ≡ on_edge f ix }
 {
     ix == f.infinity() || ix == 0 || ix == f.one()
+}
+
+// Rule 7, and the open pairs, for a negative x.
+#[tactic(auto, unfolding(crate::specs::Sorting::sorted7))]
+pub fn sort_minus(f: Format, iy: u64) -> Sorted<u64>
+    requires { 0 < iy }
+    ensures value { told result ≡ sorted7 told_settled told_open f true iy }
+    ensures bound { (told result).word < 2 * top f }
+{
+    match kind_of(f, iy) {
+        Kind::Fraction => Sorted::Settled(f.quiet()),
+        Kind::Even => Sorted::Open(false),
+        Kind::Odd => Sorted::Open(true),
+    }
 }

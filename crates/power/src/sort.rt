@@ -4,8 +4,8 @@ ghost use Rattle.words.specs.Format.{magnitude, ours, top};
 ghost use Rattle.power.specs.Sorting.{over, square, sorted7, sorted6, sorted5, sorted, told_by, told_settled, told_open};
 
 use super::answer::Sorted;
-use super::edge::{edge, infinite, is_edge};
-use super::kind::{Kind, kind_of};
+use super::edge;
+use super::edge::{infinite, is_edge};
 use super::operand::Operand;
 use super::plain::plain;
 use root::root::Root;
@@ -43,11 +43,9 @@ fn sort_minus<F: Width>(iy: u64) -> Sorted<F::Word>
     requires { 0 < iy }
     ensures { told_by F.Word.number result ≡ sorted7 told_settled told_open (ours F.format) true iy }
 {
-    let f = F::format();
-    match kind_of(f, iy) {
-        Kind::Fraction => settle::<F>(f.quiet()),
-        Kind::Even => Sorted::Open(false),
-        Kind::Odd => Sorted::Open(true),
+    match edge::sort_minus(F::format(), iy) {
+        Sorted::Settled(n) => settle::<F>(n),
+        Sorted::Open(negative) => Sorted::Open(negative),
     }
 }
 
@@ -60,7 +58,7 @@ fn sort_from6<F: Width>(x: Operand, y: Operand) -> Sorted<F::Word>
 {
     let f = F::format();
     if is_edge(f, x.size) {
-        return settle::<F>(edge(f, x, y));
+        return settle::<F>(edge::edge(f, x, y));
     }
     if !x.negative {
         return Sorted::Open(false);
