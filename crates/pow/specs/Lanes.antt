@@ -1,5 +1,8 @@
--- The lanes of a block's room, whose arrays are of 64. Definitions only.
-use Rattle.std.specs.Prelude.{ℕ, length, get_or, replicate, set, ◌≡◌}
+-- The lanes of a block's room, whose arrays are of 64, and the word that a lane ends with. Definitions only.
+use Rattle.std.specs.Prelude.{ℕ, ◌+◌, ◌*◌, ◌%◌, length, get_or, replicate, set, ◌≡◌}
+use Rattle.std.specs.Float.Ieee.{to_bits, hid, top}
+use Rattle.power.specs.Width.{Width, Two}
+use Rattle.power.specs.Chain.{exponential_of}
 use Rattle.pow.specs.declared.lane.Lane.{Lane}
 use Rattle.pow.specs.declared.block.Room.{Room}
 
@@ -38,3 +41,7 @@ pub record Whole {F W : Type 0} (r : Room F W) : Type 0 where
   pub ls : length r.ls ≡ 64
   pub rs : length r.rs ≡ 64
   pub ts : length r.ts ≡ 64
+
+-- the word of the exponential of z and w, with n added to its exponent's field
+abbrev pub ended_of : Width → Two → ℕ → ℕ
+ended_of w q n = (to_bits w.format (exponential_of w q) + n * hid w.format) % (2 * top w.format)

@@ -2,6 +2,8 @@
 // oracle/vectors.rs prints. The roots come first, as `second_root` prints them too.
 #![tactic(auto)]
 
+#[cfg(test)]
+mod lanes;
 mod lines;
 mod partials;
 

@@ -30,10 +30,10 @@ ended-m-requires g c =
     subst (λ (a : Lane _ _). g.F.Word.Word.number a.flag < 2) (sym e) (c.requires.bits c.loop-i.i c.loop-i-test.true)
 
 pub overflow_cast-found : goal.overflow_cast-found
-overflow_cast-found g c = record { fits = (counted c.loop-i.found c.wide.result _ c.loop-i.i c.ended-m.ensures.bit c.wide.ensures.value c.loop-i.invariant.few c.loop-i-test.true).0 }
+overflow_cast-found g c = record { fits = (counted c.loop-i.found c.wide.result _ c.loop-i.i c.ended-m.ensures.ended.bit c.wide.ensures.value c.loop-i.invariant.few c.loop-i-test.true).0 }
 
 pub overflow_add-found : goal.overflow_add-found
-overflow_add-found g c = record { fits = (counted c.loop-i.found c.wide.result _ c.loop-i.i c.ended-m.ensures.bit c.wide.ensures.value c.loop-i.invariant.few c.loop-i-test.true).1 }
+overflow_add-found g c = record { fits = (counted c.loop-i.found c.wide.result _ c.loop-i.i c.ended-m.ensures.ended.bit c.wide.ensures.value c.loop-i.invariant.few c.loop-i-test.true).1 }
 
 pub loop-i-preserved : goal.loop-i-preserved
 loop-i-preserved g c =
@@ -44,11 +44,11 @@ loop-i-preserved g c =
     let u = c.loop-i.invariant in
     let t = c.loop-i-test.true in
     let e = c.at-l.ensures ∙ u.upto.rest i (omega arith) in
-    let p = subst (λ (a : Lane _ _). Ended (of g.F.Width.format g.F.Chain.width) (two_in g.F.Width.value a) (n a.w) (n a.flag) (n m.w) (n m.flag)) e c.ended-m.ensures in
+    let p = subst (λ (a : Lane _ _). Ended (of g.F.Width.format g.F.Chain.width) (two_in g.F.Width.value a) (n a.w) (n a.flag) (n m.w) (n m.flag)) e c.ended-m.ensures.ended in
     rw c.put.ensures (record {
       upto = one-more _ _ u.upto t l tt;
       told = one-more-told _ _ u.upto.long u.told t m.w l p;
-      few = (counted c.loop-i.found c.wide.result _ i c.ended-m.ensures.bit c.wide.ensures.value u.few t).2;
+      few = (counted c.loop-i.found c.wide.result _ i c.ended-m.ensures.ended.bit c.wide.ensures.value u.few t).2;
       none = λ z. let b = both c.loop-i.found c.wide.result _ c.wide.ensures.value z in unset g.F.Word.Word.ZERO g.F.Chain.ONE n u.upto.long t l (u.none b.0) b.1;
     })
 

@@ -23,15 +23,15 @@ lane g r j = lane_at g.F.Word.Word.ZERO g.F.Chain.ONE r j
 -- what each stage promised of it
 started : (g : Over) (c : After-each-2 g) (j : ℕ) → j < 64 → Started (of g.F.Width.format g.F.Chain.width) g.F.Width.value g.F.Word.Word.number (lane g c.args.self.now j) (lane g c.each.new.self j)
 unfolding lane
-started g c j k = let p = (c.each.ensures j k).1 in (p.0, p.1.0, p.1.1.0, p.1.1.1.0, p.1.1.1.1)
+started g c j k = let p = (c.each.ensures j k).1 in (p.0, p.1.0, p.1.1.0, p.1.1.1.0.0, p.1.1.1.0.1)
 
 summed : (g : Over) (c : After-each-2 g) (j : ℕ) → j < 64 → Summed (of g.F.Width.format g.F.Chain.width) g.F.Width.value g.F.Word.Word.number (lane g c.each.new.self j) (lane g c.each-2.new.self j)
 unfolding lane
-summed g c j k = let p = (c.each-2.ensures j k).1 in (p.0, p.1.0, p.1.1, p.1.2, p.1.3, p.1.4)
+summed g c j k = let p = (c.each-2.ensures j k).1 in (p.0, p.1.0.0, p.1.0.1, p.1.0.2, p.1.0.3, p.1.0.4)
 
 logged : (g : Over) (c : After-each-3 g) (j : ℕ) → j < 64 → Logged (of g.F.Width.format g.F.Chain.width) g.F.Width.value g.F.Word.Word.number (lane g c.each-2.new.self j) (lane g c.each-3.new.self j)
 unfolding lane
-logged g c j k = let p = (c.each-3.ensures j k).1 in (p.0, p.1.0, p.1.1, p.1.2, p.1.3)
+logged g c j k = let p = (c.each-3.ensures j k).1 in (p.0, p.1.0.0, p.1.0.1, p.1.0.2, p.1.0.3)
 
 pub each-requires : goal.each-requires
 each-requires g c =
@@ -85,4 +85,4 @@ returns g c j k =
     let q = summed g b j k in
     let p = logged g d j k in
     let r = (c.each-4.ensures j k).1 in
-    (r.0 ∙ product (of g.F.Width.format g.F.Chain.width) v n (lane g c.args.self.now j) (lane g c.each.new.self j) (lane g c.each-2.new.self j) s q (lane g c.each-3.new.self j) p (of_bits g.F.Width.format), r.1 ∙ flag (of g.F.Width.format g.F.Chain.width) v n (lane g c.args.self.now j) (lane g c.each.new.self j) (lane g c.each-2.new.self j) s q (lane g c.each-3.new.self j) p)
+    (r.0 ∙ product (of g.F.Width.format g.F.Chain.width) v n (lane g c.args.self.now j) (lane g c.each.new.self j) (lane g c.each-2.new.self j) s q (lane g c.each-3.new.self j) p (of_bits g.F.Width.format), r.1.0 ∙ flag (of g.F.Width.format g.F.Chain.width) v n (lane g c.args.self.now j) (lane g c.each.new.self j) (lane g c.each-2.new.self j) s q (lane g c.each-3.new.self j) p)

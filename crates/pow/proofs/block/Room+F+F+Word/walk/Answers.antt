@@ -34,7 +34,7 @@ each-requires-2 g c =
       search rules,
       λ j k.
           let t = (c.each.ensures j k).1 in
-          subst (λ (l : g.row.F.Denot). Number (add g.F.Width.format (v l) (v (lane_at g.F.Word.Word.ZERO g.F.Chain.ONE c.each.new.self j).hi))) (sym t.1) t.0.number,
+          subst (λ (l : g.row.F.Denot). Number (add g.F.Width.format (v l) (v (lane_at g.F.Word.Word.ZERO g.F.Chain.ONE c.each.new.self j).hi))) (sym t.1.0) t.0.number,
     )
 
 pub end-requires : goal.end-requires
@@ -43,7 +43,7 @@ end-requires g c = (
   (
     c.requires.full,
     λ j k.
-        subst (λ (b : g.row.F-Word.Denot). g.F.Word.Word.number b < 2) (sym (c.each-2.ensures j k).1.1.0) (c.each.ensures j k).1.0.bit,
+        subst (λ (b : g.row.F-Word.Denot). g.F.Word.Word.number b < 2) (sym (c.each-2.ensures j k).1.1.0.0) (c.each.ensures j k).1.0.bit,
   ),
 )
 
@@ -60,8 +60,8 @@ returns-clause-words g c j k f =
     let l3 = lane_at z g.F.Chain.ONE c.each-2.new.self j in
     let l4 = lane_at z g.F.Chain.ONE c.end.new.self j in
     let o = get_or c.end.new.out j z in
-    let e : Ended (of g.F.Width.format g.F.Chain.width) (two_in v l3) (n l2.w) (n l2.flag) (n o) (n l4.flag) = subst (λ (b : g.row.F-Word.Denot). Ended (of g.F.Width.format g.F.Chain.width) (two_in v l3) (n l2.w) (n b) (n o) (n l4.flag)) u.1.0
-    (subst (λ (b : g.row.F-Word.Denot). Ended (of g.F.Width.format g.F.Chain.width) (two_in v l3) (n b) (n l3.flag) (n o) (n l4.flag)) u.1.1 (c.end.ensures.words j k)) in
+    let e : Ended (of g.F.Width.format g.F.Chain.width) (two_in v l3) (n l2.w) (n l2.flag) (n o) (n l4.flag) = subst (λ (b : g.row.F-Word.Denot). Ended (of g.F.Width.format g.F.Chain.width) (two_in v l3) (n l2.w) (n b) (n o) (n l4.flag)) u.1.0.0
+    (subst (λ (b : g.row.F-Word.Denot). Ended (of g.F.Width.format g.F.Chain.width) (two_in v l3) (n b) (n l3.flag) (n o) (n l4.flag)) u.1.0.1 (c.end.ensures.words j k)) in
     let r = pair_is (of g.F.Width.format g.F.Chain.width) h.room h.limits_grow h.high_word.2 (clear-is (of g.F.Width.format g.F.Chain.width) _ _ (c.requires.clear j k).0) p.0 t.0
-    (u.0 ∙ ap (λ (l : g.row.F.Denot). parts_of (of g.F.Width.format g.F.Chain.width) (record { hi = v l2.hi; lo = v l })) t.1) e f in
+    (u.0 ∙ ap (λ (l : g.row.F.Denot). parts_of (of g.F.Width.format g.F.Chain.width) (record { hi = v l2.hi; lo = v l })) t.1.0) e f in
     (ap n (sym p.1) ∙ r.0, r.1)

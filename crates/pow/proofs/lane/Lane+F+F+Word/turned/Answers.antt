@@ -1,5 +1,5 @@
 -- `pow::lane::Lane::turned` meets its contract: what is left of p_h is the definition's where that is sure. Assumes nothing.
-use Rattle.std.proofs.Common.{◌≡◌, ℕ, sym, ◌∙◌, le_trans, le_of_lt, ltb-true, arith}
+use Rattle.std.proofs.Common.{◌≡◌, ℕ, refl, sym, ◌∙◌, inr, le_trans, le_of_lt, ltb-true, arith}
 use native.Mathlib.Nat.{lt_of_le_of_lt}
 use Rattle.power.specs.NoNan.{Number}
 use Rattle.chain.proofs.NoNan.{finite_number}
@@ -21,6 +21,15 @@ turned-turn-requires g c = (
   sum-number g (goal.at.turned-turn-requires g c).After-add-z,
   lt_of_le_of_lt (le_trans (le_of_lt (ltb-true _ _ (sym c.is_inside.ensures ∙ c.if-is_inside.true))) g.met.F.Chain.limits_grow) g.met.F.Chain.small_turnable,
 )
+
+pub returns-in-Some-clause-either : goal.returns-in-Some-clause-either
+returns-in-Some-clause-either g c =
+    let e = g.met.F.Width.adds _ _ _ c.add-z.ensures in
+    elim c.if-is_inside.branch [
+      | then-is_inside w ↦ let t = some-is _ c.in-Some.is w.turn-is w.turned-turn.ensures in
+          inr (rw e at (ltb-true _ _ (sym c.is_inside.ensures ∙ w.if-is_inside.true)), rw e at t.0, rw e at t.1, refl)
+      | else-is_inside w ↦ absurd (none-some (sym w.turn-is ∙ c.in-Some.is))
+    ]
 
 pub returns-in-Some-clause-stepped : goal.returns-in-Some-clause-stepped
 returns-in-Some-clause-stepped g c =
